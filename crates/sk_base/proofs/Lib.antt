@@ -1,0 +1,4 @@
+pub mod Held
+pub mod Lasts
+pub mod Reading
+pub mod Writing

@@ -1,0 +1,11 @@
+pub mod Answer
+pub mod Causes
+pub mod Files
+pub mod Last
+pub mod MemFiles
+pub mod MemFilesParts
+pub mod MemSink
+pub mod MemSinkParts
+pub mod Names
+pub mod Place
+pub mod Sink

@@ -1,0 +1,168 @@
+//! Files in memory, whose failures are chosen by the number of the call.
+ghost use Rattle.std.specs.Prelude.{◌≡◌, ℕ, ◌+◌, ◌-◌, ◌^◌, ◌≤◌, ◌==◌, ◌&&◌, ◌||◌, ◌++◌, nat_lt, min, take, drop, [], length, unwrap_or, is_some, option_copied, IsTrue, IsFalse, IfOk, OnOk, OnErr, None};
+ghost use Rattle.sk_base.specs.Causes.{Rose, NeverFalls};
+ghost use Rattle.sk_base.specs.MemFiles.{place_held, bytes_held, bytes_left, is_reliable, folder_of, IsHeldToo};
+
+use crate::std_files::has_ended;
+use crate::{Failed, Files, NoMemory};
+use std::alloc::Global;
+
+#[derive(Drop)]
+struct HeldFile {
+    name: String,
+    bytes: Vec<u8>,
+}
+
+/// Which calls are to fail, by their numbers from 1 on.
+#[derive(Drop)]
+struct Script {
+    calls: u64,
+    failing: Vec<u64>,
+    faults: u64,
+}
+
+impl Script {
+    /// Counts a call, and says whether it is to fail.
+    fn next_fails(&mut self) -> bool
+        ensures reliable { IsTrue (is_reliable self.old.failing.items) → IsFalse result }
+        ensures failing { self.new.failing ≡ self.old.failing }
+        ensures faults { self.new.faults ≡ self.old.faults }
+    {
+        self.calls = self.calls.saturating_add(1);
+        self.failing.contains(&self.calls)
+    }
+
+    /// Counts a fault.
+    fn fail(&mut self) -> Failed
+        ensures failing { self.new.failing ≡ self.old.failing }
+        ensures count { NeverFalls self.old.faults self.new.faults }
+        ensures rose { Rose self.old.faults self.new.faults }
+    {
+        self.faults = self.faults.saturating_add(1);
+        Failed
+    }
+}
+
+/// Files that were put there by `hold`.
+#[derive(Drop)]
+pub struct MemFiles {
+    alloc: Global,
+    held: Vec<HeldFile>,
+    selected: Option<usize>,
+    taken: usize,
+    given: u64,
+    ended: bool,
+    script: Script,
+    ghost within: { taken ≤ length (unwrap_or (bytes_held held.items selected) []) },
+}
+
+/// Where the file of this name is held.
+fn place_of_name(held: &[HeldFile], name: &str) -> Option<usize>
+    ensures { result ≡ place_held held.now name.now }
+{
+    held.iter().position(|file| file.name.as_str() == name)
+}
+
+/// The bytes of the file that is held there, none where there is no such file.
+fn bytes_at(held: &[HeldFile], place: Option<usize>) -> &[u8]
+    ensures { result.now ≡ unwrap_or (bytes_held held.now place) [] }
+{
+    match place {
+        Some(at) => match held.get(at) {
+            Some(file) => file.bytes.as_slice(),
+            None => &[],
+        },
+        None => &[],
+    }
+}
+
+/// Moves as many bytes as fit to the front of the room.
+fn move_front(bytes: &[u8], room: &mut [u8]) -> usize
+    ensures count { result ≡ min (length bytes.now) (length room.new) }
+    ensures moved { take result room.new ≡ take result bytes.now }
+{
+    let count = bytes.len().min(room.len());
+    room[..count].copy_from_slice(&bytes[..count]);
+    count
+}
+
+impl MemFiles {
+    ghost use Rattle.sk_base.specs.MemFilesParts.{files_held, calls_failing};
+
+    /// No files yet. The calls of `select` and `pull` are numbered together from 1, and those listed are to fail.
+    pub fn new(alloc: Global, failing: &[u64]) -> Result<MemFiles, NoMemory>
+        ensures held { IfOk result (λ files. files_held files ≡ []) }
+        ensures failing { IfOk result (λ files. calls_failing files ≡ failing.now) }
+    {
+        Ok(MemFiles {
+            alloc,
+            held: Vec::new(alloc),
+            selected: None,
+            taken: 0,
+            given: 0,
+            ended: false,
+            script: Script {
+                calls: 0,
+                failing: Vec::from_slice(alloc, failing)?,
+                faults: 0,
+            },
+        })
+    }
+
+    /// Puts a file there. A selected file is let go.
+    pub fn hold(&mut self, name: &str, bytes: &[u8]) -> Result<(), NoMemory>
+        requires { place_held (files_held self.old) name.now ≡ None }
+        ensures ok { OnOk result (IsHeldToo (files_held self.old) name.now bytes.now (files_held self.new)) }
+        ensures err { OnErr result (files_held self.new ≡ files_held self.old) }
+        ensures failing { calls_failing self.new ≡ calls_failing self.old }
+    {
+        let file = HeldFile {
+            name: String::from_str(self.alloc, name)?,
+            bytes: Vec::from_slice(self.alloc, bytes)?,
+        };
+        self.selected = None;
+        self.taken = 0;
+        self.held.push(file)?;
+        Ok(())
+    }
+}
+
+impl Files for MemFiles {
+    ghost use Rattle.std.specs.Prelude.{◌≡◌, ℕ, ◌≤◌, List, [], length};
+    ghost use Rattle.sk_base.specs.MemFiles.{bytes_left, is_reliable, folder_of};
+
+    ghost folder = { λ files. folder_of files.held.items files.script.failing.items };
+
+    ghost selection = { λ files. record { left = bytes_left files.held.items files.selected files.taken; steady = is_reliable files.script.failing.items; given = files.given; ended = files.ended } };
+
+    ghost faults = { λ files. files.script.faults };
+
+    fn select(&mut self, name: &str) -> Result<(), Failed> {
+        self.taken = 0;
+        self.selected = None;
+        self.given = 0;
+        self.ended = false;
+        if self.script.next_fails() {
+            return Err(self.script.fail());
+        }
+        match place_of_name(self.held.as_slice(), name) {
+            Some(place) => {
+                self.selected = Some(place);
+                Ok(())
+            }
+            None => Err(self.script.fail()),
+        }
+    }
+
+    fn pull(&mut self, room: &mut [u8]) -> Result<usize, Failed> {
+        if self.script.next_fails() {
+            return Err(self.script.fail());
+        }
+        let left = &bytes_at(self.held.as_slice(), self.selected)[self.taken..];
+        let count = move_front(left, room);
+        self.taken += count;
+        self.given = self.given.saturating_add(count as u64);
+        self.ended = has_ended(self.ended, count, room.len());
+        Ok(count)
+    }
+}
