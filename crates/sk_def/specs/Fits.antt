@@ -1,5 +1,5 @@
 -- Which definitions are within their limits, with each number of them one of its lists.
-use Rattle.std.specs.Prelude.{ℕ, ◌<◌, ◌≤◌, List, length, All}
+use Rattle.std.specs.Prelude.{ℕ, ◌<◌, ◌≤◌, length, All}
 use Rattle.sk_def.specs.declared.sorts.ArgSort.{ArgSort}
 use Rattle.sk_def.specs.declared.sorts.ArgSort.TheVariants as arg
 use Rattle.sk_def.specs.declared.def.Con.{Con}
