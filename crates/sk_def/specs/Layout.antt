@@ -23,6 +23,14 @@ branch counts k bones = take (slice_index counts k) (drop (sum (take k counts)) 
 abbrev pub after_branches : List ℕ → List Bone → List Bone
 after_branches counts bones = drop (sum counts) bones
 
+-- how many bones the branches of a bone have; the bones after a bone and its branches
+abbrev pub inner_count : Bone → ℕ
+inner_count (Either counts exports) = sum counts
+inner_count _ = 0
+
+abbrev pub after_bone : Bone → List Bone → List Bone
+after_bone bone rest = drop (inner_count bone) rest
+
 -- the number of branch k's first bone, from that of the branch bone
 abbrev pub first_of_branch : ℕ → List ℕ → ℕ → ℕ
 first_of_branch bone counts k = bone + 1 + sum (take k counts)
