@@ -1,0 +1,156 @@
+//! The atomic operations and their words.
+ghost use Rattle.std.specs.Prelude.{◌≡◌, List};
+ghost use Rattle.sk_def.specs.Filters.{filter_word, filter_named, all_filters};
+
+/// The atomic operations.
+#[derive(Clone, Copy, Debug, PartialEq, Eq)]
+pub enum Filter {
+    Lit,
+    Zero,
+    One,
+    Yes,
+    No,
+    Add,
+    Sub,
+    Mul,
+    Neg,
+    Div,
+    Rem,
+    Lt,
+    Le,
+    Eq,
+    Not,
+    And,
+    Or,
+    IsTrue,
+    IsFalse,
+    IsZero,
+    NonZero,
+    IsPos,
+    IsNeg,
+    Below,
+    AtLeast,
+    Same,
+    Differ,
+    OfInt,
+    OfBool,
+    AsInt,
+    AsBool,
+    Empty,
+    Read,
+    Write,
+    Forget,
+    Bound,
+    KeepInt,
+    KeepBool,
+    KeepVal,
+    KeepStore,
+    AnyBool,
+    Pick,
+}
+
+/// All filters, in the order of their table.
+const FILTERS: [Filter; 42] = [
+    Filter::Lit,
+    Filter::Zero,
+    Filter::One,
+    Filter::Yes,
+    Filter::No,
+    Filter::Add,
+    Filter::Sub,
+    Filter::Mul,
+    Filter::Neg,
+    Filter::Div,
+    Filter::Rem,
+    Filter::Lt,
+    Filter::Le,
+    Filter::Eq,
+    Filter::Not,
+    Filter::And,
+    Filter::Or,
+    Filter::IsTrue,
+    Filter::IsFalse,
+    Filter::IsZero,
+    Filter::NonZero,
+    Filter::IsPos,
+    Filter::IsNeg,
+    Filter::Below,
+    Filter::AtLeast,
+    Filter::Same,
+    Filter::Differ,
+    Filter::OfInt,
+    Filter::OfBool,
+    Filter::AsInt,
+    Filter::AsBool,
+    Filter::Empty,
+    Filter::Read,
+    Filter::Write,
+    Filter::Forget,
+    Filter::Bound,
+    Filter::KeepInt,
+    Filter::KeepBool,
+    Filter::KeepVal,
+    Filter::KeepStore,
+    Filter::AnyBool,
+    Filter::Pick,
+];
+
+/// The word of a filter in a definition text.
+pub fn filter_word(filter: Filter) -> &'static [u8]
+    ensures { result.now ≡ filter_word filter }
+{
+    match filter {
+        Filter::Lit => b"lit",
+        Filter::Zero => b"zero",
+        Filter::One => b"one",
+        Filter::Yes => b"yes",
+        Filter::No => b"no",
+        Filter::Add => b"add",
+        Filter::Sub => b"sub",
+        Filter::Mul => b"mul",
+        Filter::Neg => b"neg",
+        Filter::Div => b"div",
+        Filter::Rem => b"rem",
+        Filter::Lt => b"lt",
+        Filter::Le => b"le",
+        Filter::Eq => b"eq",
+        Filter::Not => b"not",
+        Filter::And => b"and",
+        Filter::Or => b"or",
+        Filter::IsTrue => b"is_true",
+        Filter::IsFalse => b"is_false",
+        Filter::IsZero => b"is_zero",
+        Filter::NonZero => b"non_zero",
+        Filter::IsPos => b"is_pos",
+        Filter::IsNeg => b"is_neg",
+        Filter::Below => b"below",
+        Filter::AtLeast => b"at_least",
+        Filter::Same => b"same",
+        Filter::Differ => b"differ",
+        Filter::OfInt => b"of_int",
+        Filter::OfBool => b"of_bool",
+        Filter::AsInt => b"as_int",
+        Filter::AsBool => b"as_bool",
+        Filter::Empty => b"empty",
+        Filter::Read => b"read",
+        Filter::Write => b"write",
+        Filter::Forget => b"forget",
+        Filter::Bound => b"bound",
+        Filter::KeepInt => b"keep_int",
+        Filter::KeepBool => b"keep_bool",
+        Filter::KeepVal => b"keep_val",
+        Filter::KeepStore => b"keep_store",
+        Filter::AnyBool => b"any_bool",
+        Filter::Pick => b"pick",
+    }
+}
+
+/// The filter that has this word, none exactly where no filter has it.
+pub fn filter_named(word: &[u8]) -> Option<Filter>
+    ensures { result ≡ filter_named word.now }
+{
+    FILTERS
+        .iter()
+        .copied()
+        .find(|filter| filter_word(*filter) == word)
+}
