@@ -1,0 +1,3 @@
+mod Numbers
+mod Padding
+pub mod Texts
