@@ -1,1 +1,3 @@
 mod Numbers
+mod Padding
+pub mod Texts

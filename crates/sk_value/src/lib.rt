@@ -4,10 +4,12 @@
 
 mod arith;
 mod flow;
+mod text;
 mod tuple;
 mod value;
 
 pub use arith::{Arith, Compare, Refine, results_are_given};
 pub use flow::Flow;
+pub use text::{put_between, put_bytes, put_number, put_truth, put_value};
 pub use tuple::Tuple;
 pub use value::{Store, Value};

@@ -1,8 +1,13 @@
 //! Tuples of flowing values.
-ghost use Rattle.std.specs.Prelude.{◌≡◌, ◌<◌, ◌≤◌, [], ◌∷◌, ◌++◌, Ok, Some, length, slice_get, IfOk};
+ghost use Rattle.std.specs.Prelude.{◌≡◌, ◌<◌, ◌≤◌, [], ◌∷◌, ◌++◌, Ok, Some, length, map, slice_get, IfOk, OnOk, OnErr};
+ghost use Rattle.std.specs.List.{AllZip};
+ghost use Rattle.sk_base.specs.Sink.{AppendsPrefix};
+ghost use Rattle.sk_value.specs.Texts.{tuple_text};
+ghost use Rattle.sk_value.specs.Padding.{padded_flow, FlowIsPartlyPadded};
 
 use crate::Flow;
-use sk_base::NoMemory;
+use crate::text::{put_between, put_bytes};
+use sk_base::{Names, NoMemory};
 use smallvec::SmallVec;
 use std::alloc::Global;
 use std::marker::Model;
@@ -77,5 +82,33 @@ impl Tuple {
             copy.push(flow.copy(alloc)?)?;
         }
         Ok(copy)
+    }
+
+    /// Each store with fewer places than names gains unset ones until it has so many; all else stays. After a
+    /// refusal each store has its old places and some of the new ones.
+    pub fn pad(&mut self, names: usize) -> Result<(), NoMemory>
+        ensures ok { OnOk result (self.new ≡ map (padded_flow names) self.old) }
+        ensures err { OnErr result (AllZip (FlowIsPartlyPadded names) self.old self.new) }
+    {
+        for flow in self.flows.as_mut_slice() {
+            flow.pad(names)?;
+        }
+        Ok(())
+    }
+
+    /// Appends the values in parentheses; a store lists the names that are set, in the order of the names. After a
+    /// refusal a prefix of this text was appended.
+    pub fn put_text(&self, names: &Names, out: &mut Vec<u8>) -> Result<(), NoMemory>
+        ensures ok { OnOk result (out.new.items ≡ out.old.items ++ tuple_text names.now self.now) }
+        ensures err { OnErr result (AppendsPrefix (Some out.old.items) (Some out.new.items) (tuple_text names.now self.now)) }
+    {
+        put_bytes(out, b"(")?;
+        let mut is_first = true;
+        for flow in self.as_slice() {
+            put_between(out, is_first)?;
+            flow.put_text(names, out)?;
+            is_first = false;
+        }
+        put_bytes(out, b")")
     }
 }
