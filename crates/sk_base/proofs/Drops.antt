@@ -1,5 +1,5 @@
 -- What is left of lists from a place on.
-use Rattle.std.proofs.Common.{◌≡◌, ℕ, zero, suc, ◌+◌, List, [], ◌∷◌, ◌++◌, drop, Some, refl, ap, append_assoc, add-one}
+use Rattle.std.proofs.Common.{◌≡◌, ℕ, zero, suc, ◌+◌, List, [], ◌∷◌, ◌++◌, drop, Some, append_assoc, add-one}
 use Rattle.std.specs.Prelude.{slice_get}
 use Rattle.sk_base.specs.Lists.{zip_with}
 

@@ -1,6 +1,6 @@
 -- Putting bytes piece by piece does what putting them at once would do.
 use Rattle.std.proofs.Common.{◌≡◌, ℕ, ◌+◌, ◌-◌, ◌≤◌, List, [], ◌++◌, length, Option, None, Some, Result, Ok, Err, IsErr, IfSome, refl, sym, ap, ◌∙◌, subst, arith, take, drop, take-append-drop, append_assoc, append-nil, length-append}
-use Rattle.std.specs.Io.KnownBytes.{Appends}
+use Rattle.std.specs.Io.KnownBytes.{Appends, Keeps}
 use Rattle.sk_base.specs.Causes.{NeverFalls, HasCause}
 use Rattle.sk_base.specs.declared.errors.Failed.{Failed}
 use Rattle.sk_base.specs.Sink.{PutAppends, PutFits, AppendsPrefix}
@@ -83,3 +83,44 @@ prefix_taken old now count bytes is = record {
   parts = sym (take-append-drop count bytes);
   appended = is;
 }
+
+-- so far a writer took the front of the bytes, and the rest is to come
+pub record WritesFront (old now : Option (List ℕ)) (bytes rest : List ℕ) : Type 0 where
+  pub front : List ℕ
+  pub parts : bytes ≡ front ++ rest
+  pub appended : Appends old now front
+
+keeps_nothing : (old now : Option (List ℕ)) → Keeps old now → Appends old now []
+keeps_nothing None now h = tt
+keeps_nothing (Some xs) None h = absurd h
+keeps_nothing (Some xs) (Some ys) h = h ∙ sym (append-nil xs)
+
+pub front_first : (told : Option (List ℕ)) (bytes : List ℕ) → WritesFront told told bytes bytes
+front_first told bytes = record { front = []; parts = refl; appended = Appends-nil told }
+
+-- it took some more
+pub front_more : (old now next : Option (List ℕ)) (bytes rest piece others : List ℕ) → WritesFront old now bytes rest → rest ≡ piece ++ others
+    → Appends now next piece → WritesFront old next bytes others
+front_more old now next bytes rest piece others so_far is took = record {
+  front = so_far.front ++ piece;
+  parts = so_far.parts ∙ ap (λ l. so_far.front ++ l) is ∙ sym (append_assoc so_far.front piece others);
+  appended = Appends-trans old now next so_far.front piece so_far.appended took;
+}
+
+-- it took nothing more
+pub front_failed : (old now next : Option (List ℕ)) (bytes rest : List ℕ) → WritesFront old now bytes rest → Appends now next [] → AppendsPrefix old next bytes
+front_failed old now next bytes rest so_far nothing = record {
+  kept = so_far.front ++ [];
+  rest = rest;
+  parts = so_far.parts ∙ ap (λ l. l ++ rest) (sym (append-nil so_far.front));
+  appended = Appends-trans old now next so_far.front [] so_far.appended nothing;
+}
+
+pub front_flush_failed : (old now next : Option (List ℕ)) (bytes rest : List ℕ) → WritesFront old now bytes rest → Keeps now next → AppendsPrefix old next bytes
+front_flush_failed old now next bytes rest so_far keeps = front_failed old now next bytes rest so_far (keeps_nothing now next keeps)
+
+-- it took all
+pub front_whole : (old now next : Option (List ℕ)) (bytes rest : List ℕ) → WritesFront old now bytes rest → rest ≡ [] → Keeps now next → Appends old next bytes
+front_whole old now next bytes rest so_far none keeps =
+    let P : List ℕ → Type 0 = λ l. Appends old next l in
+    subst P (sym (so_far.parts ∙ ap (λ l. so_far.front ++ l) none)) (Appends-trans old now next so_far.front [] so_far.appended (keeps_nothing now next keeps))

@@ -32,10 +32,11 @@ const SUM: &str = "result 1 (3)
 results 1
 ";
 
-fn words(alloc: Global, texts: &[&str]) -> Result<Vec<String>, NoMemory> {
+/// The words of a line.
+fn words(alloc: Global, line: &str) -> Result<Vec<String>, NoMemory> {
     let mut words = Vec::new(alloc);
-    for text in texts {
-        words.push(String::from_str(alloc, text)?)?;
+    for word in line.split_ascii_whitespace() {
+        words.push(String::from_str(alloc, word)?)?;
     }
     Ok(words)
 }
@@ -52,24 +53,20 @@ fn files(alloc: Global, failing: u64) -> Result<MemFiles, NoMemory> {
 #[test]
 fn a_sum_is_run(rt: HostRuntime) -> Result<(), Fail> {
     let alloc = rt.alloc();
-    for (depth, read, write, wanted, written) in [
-        ("2", 99, 99, Status::Done, SUM),
-        ("0000000064", 99, 99, Status::Done, SUM),
-        ("1", 99, 99, Status::Done, "results 0\n"),
-        ("0", 99, 99, Status::Done, "results 0\n"),
-        ("2", 3, 99, Status::ReadFault, ""),
-        ("2", 99, 1, Status::WriteFault, "resu"),
+    for (line, read, write, wanted, written) in [
+        ("run d j 2", 99, 99, Status::Done, SUM),
+        ("run d j 0000000064", 99, 99, Status::Done, SUM),
+        ("run d j 1", 99, 99, Status::Done, "results 0\n"),
+        ("run d j 0", 99, 99, Status::Done, "results 0\n"),
+        ("run d j 2", 3, 99, Status::ReadFault, ""),
+        ("run d j 2", 99, 1, Status::WriteFault, "resu"),
     ] {
         let mut files = files(alloc, read)?;
         let mut sink = MemSink::new(alloc, 100, &[(write, 4)])?;
-        let words = words(alloc, &["run", "d", "j", depth])?;
+        let words = words(alloc, line)?;
         let status = workbench(alloc, words.as_slice(), &mut files, &mut sink);
-        assert_eq!(rt; status, wanted, "depth {depth}");
-        assert_eq!(rt;
-            str::from_utf8(sink.written()),
-            Ok(written),
-            "depth {depth}"
-        );
+        assert_eq!(rt; status, wanted, "{line}");
+        assert_eq!(rt; str::from_utf8(sink.written()), Ok(written), "{line}");
     }
     Ok(())
 }
@@ -77,21 +74,21 @@ fn a_sum_is_run(rt: HostRuntime) -> Result<(), Fail> {
 #[test]
 fn other_words_are_no_command(rt: HostRuntime) -> Result<(), Fail> {
     let alloc = rt.alloc();
-    for texts in [
-        [].as_slice(),
-        ["run", "d", "j"].as_slice(),
-        ["run", "d", "j", "65"].as_slice(),
-        ["run", "d", "j", "+2"].as_slice(),
-        ["run", "d", "j", ""].as_slice(),
-        ["run", "d", "j", "00000000002"].as_slice(),
-        ["solve", "d", "j", "interval"].as_slice(),
+    for line in [
+        "",
+        "run d j",
+        "run d j 65",
+        "run d j +2",
+        "run d j 2x",
+        "run d j 00000000002",
+        "solve d j interval",
     ] {
         let mut files = files(alloc, 99)?;
         let mut sink = MemSink::new(alloc, 100, &[])?;
-        let words = words(alloc, texts)?;
+        let words = words(alloc, line)?;
         let status = workbench(alloc, words.as_slice(), &mut files, &mut sink);
-        assert_eq!(rt; (status, status.number()), (Status::Usage, 2));
-        assert_eq!(rt; sink.written().len(), 0);
+        assert_eq!(rt; (status, status.number()), (Status::Usage, 2), "{line}");
+        assert_eq!(rt; sink.written().len(), 0, "{line}");
     }
     Ok(())
 }
