@@ -8,7 +8,7 @@ ghost use Rattle.sk_deftext.specs.Texts.{read_definition, source_of};
 
 use crate::draft::Draft;
 use crate::fault::DefFault;
-use crate::places::{place_at_token, places_of, rule_places};
+use crate::places::{Cursor, place_at_token, places_of, rule_places};
 use crate::read::read_draft;
 use crate::source::{Places, Source};
 use sk_base::{NoMemory, place_of};
@@ -27,7 +27,13 @@ fn with_places(
     ensures { IfOk result (λ source. source ≡ source_of text.now tokens.now draft) }
 {
     let places = Places {
-        hooks: places_of(alloc, text, tokens, draft.hooks.as_slice())?,
+        hooks: places_of(
+            alloc,
+            text,
+            tokens,
+            &mut Cursor::new(),
+            draft.hooks.as_slice(),
+        )?,
         rules: rule_places(alloc, text, tokens, draft.rules.as_slice())?,
     };
     Ok(Source {
