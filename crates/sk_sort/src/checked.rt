@@ -3,12 +3,12 @@ ghost use Rattle.std.specs.Prelude.{◌≡◌, ◌≤◌, ◌↔◌, length, All
 ghost use Rattle.sk_def.specs.declared.def.Def.{Def};
 ghost use Rattle.sk_def.specs.Fits.{DefinitionFits};
 ghost use Rattle.sk_sort.specs.Rules.{RuleIsSorted};
-ghost use Rattle.sk_sort.specs.Definition.{bad_rule, missing_constructor, missing_rule, first_fault, AnswersFault, DefinitionIsSorted, IsWellSorted};
+ghost use Rattle.sk_sort.specs.Definition.{bad_rule, missing_constructor, missing_rule, checked_fault, first_fault, AnswersFault, DefinitionIsSorted, IsWellSorted};
 
-use crate::SortFault;
 use crate::interp::SortStop;
 use crate::rule::check_rule;
-use sk_def::{ConId, Def, HookId, SortId};
+use crate::{SortError, SortFault};
+use sk_def::{ConId, Def, HookId, SortId, definition_fits};
 use std::alloc::Global;
 use std::marker::Model;
 
@@ -36,15 +36,31 @@ impl Checked {
 }
 
 /// Checks the sorts of a definition. A definition with a fault is dropped; the fault is the first one.
-#[tactic(auto, using(crate::proofs::WellSorted::well_sorted))]
 pub fn check_sorts(alloc: Global, def: Def) -> Result<Checked, SortFault>
-    requires { DefinitionFits def }
     ensures answers { AnswersFault (first_fault def) result }
     ensures same { IfOk result (λ checked. checked ≡ def) }
 {
-    check_rules(alloc, &def)?;
-    check_complete(&def)?;
-    Ok(Checked { def })
+    if !definition_fits(&def) {
+        return Err(SortFault::Bad {
+            why: SortError::Undefined,
+            rule: 0,
+            bone: 0,
+        });
+    }
+    match check_all(alloc, &def) {
+        Ok(()) => Ok(Checked { def }),
+        Err(fault) => Err(fault),
+    }
+}
+
+/// The checks of all rules, and then that none is missing.
+fn check_all(alloc: Global, def: &Def) -> Result<(), SortFault>
+    requires { DefinitionFits def.now }
+    ensures answers { AnswersFault (checked_fault def.now) result }
+    ensures sorted { OnOk result (All (RuleIsSorted def.now) def.now.rules) }
+{
+    check_rules(alloc, def)?;
+    check_complete(def)
 }
 
 /// The checks of all rules.
