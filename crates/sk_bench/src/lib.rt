@@ -2,7 +2,12 @@
 //! reads, each as the ones before say, and what it then writes. The program `skel` stands on it.
 #![tactic(auto)]
 
+mod job;
 mod kinds;
+mod print;
+mod program;
+mod replay;
+mod results;
 mod run;
 mod smallest;
 mod status;

@@ -49,12 +49,7 @@ fn run_definition<F: Files>(
 }
 
 /// Reads the job, and makes what is written.
-fn run_job<F: Files>(
-    alloc: Global,
-    files: &mut F,
-    job: &str,
-    depth: u32,
-) -> Result<Output, Stop>
+fn run_job<F: Files>(alloc: Global, files: &mut F, job: &str, depth: u32) -> Result<Output, Stop>
     ensures follows { Follows (F.folder files.old) (F.selection files.old) (F.selection files.new) (F.faults files.old) (F.faults files.new) (Read job.now LIMIT (λ _. Unstated)) result }
     ensures folder { F.folder files.new ≡ F.folder files.old }
     ensures count { NeverFalls (F.faults files.old) (F.faults files.new) }
