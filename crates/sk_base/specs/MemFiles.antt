@@ -1,5 +1,6 @@
--- What the files in memory tell.
-use Rattle.std.specs.Prelude.{◌≡◌, ◌++◌, ℕ, Bool, true, false, ◌&&◌, List, [], ◌∷◌, drop, Option, is_some, option_map, option_and_then, slice_get, position, nat_eq, string_bytes}
+-- What the files in memory tell, and which of their calls fail.
+use Rattle.std.specs.Prelude.{◌≡◌, ◌++◌, ℕ, ◌==◌, Bool, true, false, ◌&&◌, List, [], ◌∷◌, drop, Option, is_some, option_map, option_and_then, slice_get, position, nat_eq, string_bytes}
+use Rattle.std.specs.List.{list_any}
 use lib.Pointwise.{pointwise}
 use Rattle.sk_base.specs.Files.{Folder}
 use Rattle.sk_base.specs.declared.mem_files.HeldFile.{HeldFile}
@@ -16,6 +17,10 @@ bytes_held held place = option_map (λ file. file.bytes.items) (option_and_then 
 abbrev pub is_reliable : List ℕ → Bool
 is_reliable [] = true
 is_reliable (_ ∷ _) = false
+
+-- the call of this number is to fail
+abbrev pub is_to_fail : List ℕ → ℕ → Bool
+is_to_fail failing call = list_any (λ other. other == call) failing
 
 -- the files as a program sees them: just those that are held are told, and steady where no call is to fail
 abbrev pub folder_of : List HeldFile → List ℕ → Folder

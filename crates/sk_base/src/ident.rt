@@ -24,7 +24,7 @@ impl Model for Ident {
 }
 
 impl Ident {
-    /// The identifier with these bytes, of which there are 1 to 64.
+    /// The identifier with these bytes, of which there are 1 to 64. Fails only where memory is refused.
     pub fn of(alloc: Global, bytes: &[u8]) -> Result<Ident, NoMemory>
         requires some { 1 ≤ length bytes.now }
         requires few { length bytes.now ≤ 64 }

@@ -28,3 +28,6 @@ pub use sink::{Sink, write_all};
 pub use stack::Stack;
 pub use std_files::StdFiles;
 pub use std_sink::StdSink;
+
+#[cfg(test)]
+mod tests;

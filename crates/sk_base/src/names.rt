@@ -66,7 +66,8 @@ impl Names {
         self.names.get_index(id as usize).unwrap()
     }
 
-    /// The place of a name, which goes last where it is new. `Full` says that 64 others stand.
+    /// The place of a name, which goes last where it is new. `Full` says that it is new and 64 others stand. After a
+    /// refusal the names are as before.
     pub fn add(&mut self, name: &Ident) -> Result<u8, NamesFault>
         ensures ok { IfOk result (λ place. with_name self.old name.now ≡ Some (place, self.new)) }
         ensures err { OnErr result (self.new ≡ self.old) }

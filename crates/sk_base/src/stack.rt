@@ -1,6 +1,6 @@
 //! A list that grows and shrinks at its front.
 
-ghost use Rattle.std.specs.Prelude.{◌≡◌, [], ◌∷◌, OnOk, OnErr, MatchOption, length};
+ghost use Rattle.std.specs.Prelude.{◌≡◌, [], ◌∷◌, Some, OnOk, OnErr, MatchOption, length, slice_get};
 
 use crate::NoMemory;
 use std::alloc::Global;
@@ -30,7 +30,7 @@ impl<E: Drop> Stack<E> {
         }
     }
 
-    /// Puts an entry on top. A refused entry is dropped.
+    /// Puts an entry on top. Where memory is refused it is dropped, and the stack is as before.
     pub fn push(&mut self, entry: E) -> Result<(), NoMemory>
         ensures ok { OnOk result (self.new ≡ entry ∷ self.old) }
         ensures err { OnErr result (self.new ≡ self.old) }
@@ -39,13 +39,21 @@ impl<E: Drop> Stack<E> {
         Ok(())
     }
 
-    /// Takes the top away.
+    /// Takes the top away, none where the stack is empty.
     pub fn pop(&mut self) -> Option<E>
         ensures { MatchOption result ((self.old ≡ []) × (self.new ≡ [])) (λ entry. self.old ≡ entry ∷ self.new) }
     {
         self.entries.pop()
     }
 
+    /// The top.
+    pub fn top(&self) -> Option<&E>
+        ensures { MatchOption result (self.now ≡ []) (λ entry. slice_get self.now 0 ≡ Some entry.now) }
+    {
+        self.entries.last()
+    }
+
+    /// How many entries there are.
     pub fn len(&self) -> usize
         ensures { result ≡ length self.now }
     {

@@ -1,16 +1,16 @@
 -- Inversions of the layout, and its tests.
-use Rattle.std.proofs.Common.{◌≡◌, ℕ, zero, suc, ◌+◌, ◌≤◌, ◌<◌, Bool, List, [], ◌∷◌, take, drop, sum, length, get_or, add-one, arith}
+use Rattle.std.proofs.Common.{◌≡◌, ℕ, zero, suc, ◌+◌, ◌≤◌, ◌<◌, Bool, List, [], ◌∷◌, take, drop, sum, length, get_or, add-one, arith, ◌∙◌, ap}
 use Rattle.std.specs.Prelude.{◌↔◌, IsTrue, ◌-◌}
 use Rattle.std.proofs.Math.Seq.{drop-cons}
-use Rattle.std.proofs.lemmas.List.{length-drop}
-use Rattle.std.proofs.lemmas.List.Sums.{sum_by-cons}
+use Rattle.std.proofs.lemmas.List.{length-drop, take-take, drop-drop, drop-take}
+use Rattle.std.proofs.lemmas.List.Sums.{sum_by-cons, sum_by-take-drop}
 use Rattle.sk_def.specs.declared.ids.HookId.{HookId}
 use Rattle.sk_def.specs.declared.ids.Var.{Var}
 use Rattle.sk_def.specs.declared.bone.Target.{Target}
 use Rattle.sk_def.specs.declared.filter.Filter.{Filter}
 use Rattle.sk_def.specs.declared.bone.Bone.{Bone}
 use Rattle.sk_def.specs.declared.bone.Bone.TheVariants.{Apply, Call, Either}
-use Rattle.sk_def.specs.Layout.{BonesFit, BranchesFit, AreBelow, TargetIsBelow, no_bone, filter_bone, hook_bone, branch_bone, branch}
+use Rattle.sk_def.specs.Layout.{BonesFit, BranchesFit, AreBelow, TargetIsBelow, no_bone, filter_bone, hook_bone, branch_bone, one_branch, branch}
 
 module _ {hooks vars : ℕ} where
   filter_parts : {nesting : ℕ} {filter : Filter} {args outs : List Var} {rest : List Bone} →
@@ -27,7 +27,7 @@ module _ {hooks vars : ℕ} where
 
   branch_parts : {nesting count : ℕ} {counts : List ℕ} {bones : List Bone} → BranchesFit hooks vars nesting (count ∷ counts) bones →
       BonesFit hooks vars nesting (take count bones) × BranchesFit hooks vars nesting counts (drop count bones)
-  branch_parts (branch p q) = (p, q)
+  branch_parts (one_branch p q) = (p, q)
 
   pub nothing_fits : (nesting : ℕ) (bones : List Bone) → length bones ≡ 0 → BonesFit hooks vars nesting bones
   nothing_fits nesting [] h = no_bone
@@ -64,10 +64,29 @@ module _ {hooks vars : ℕ} where
 
     pub branch_fits : BonesFit hooks vars nesting (take count left) →
         BranchesFit hooks vars nesting (drop (place + 1) counts) (drop count left) ↔ BranchesFit hooks vars nesting counts bones
-    branch_fits p = ((λ f. so_far.0 (rw more (branch p f))), (λ f. (branch_parts (rw more at (so_far.1 f))).1))
+    branch_fits p = ((λ f. so_far.0 (rw more (one_branch p f))), (λ f. (branch_parts (rw more at (so_far.1 f))).1))
 
     pub sums_on : sum (drop place counts) ≡ length left → (count ≤ length left) × (sum (drop (place + 1) counts) ≡ length (drop count left))
     sums_on h =
         let s = rw more at h in
         let t = sum_by-cons (λ (n : ℕ). n) count (drop (place + 1) counts) in
         (omega (arith, s, t), omega (arith, s, t, length-drop count left))
+
+-- where branches of these sizes fit one after another, the one at each place does
+pub branch_at : {hooks vars nesting : ℕ} (counts : List ℕ) (bones : List Bone) (k : ℕ) → k < length counts →
+    BranchesFit hooks vars nesting counts bones → BonesFit hooks vars nesting (branch counts k bones)
+branch_at [] bones k within f = absurd (omega (arith, within))
+branch_at (count ∷ counts) bones zero within f = (branch_parts f).0
+branch_at (count ∷ counts) bones (suc k) within f =
+    let later = branch_at counts (drop count bones) k (omega (arith, within)) (branch_parts f).1 in
+    rw (sum_by-cons (λ (n : ℕ). n) count (take k counts), ← drop-drop (sum (take k counts)) count bones) later
+
+-- a branch is the same among the bones of all branches and among all that follow the branch bone
+pub branch-take : (counts : List ℕ) (k : ℕ) (bones : List Bone) → k < length counts →
+    branch counts k (take (sum counts) bones) ≡ branch counts k bones
+branch-take counts k bones within =
+    let more = sum_by-take-drop (λ (n : ℕ). n) counts k in
+    let here = ap (λ (ns : List ℕ). sum ns) (drop-cons counts k 0 within) ∙ sum_by-cons (λ (n : ℕ). n) (get_or counts k 0) (drop (suc k) counts) in
+    let rest : ℕ = get_or counts k 0 + sum (drop (suc k) counts) in
+    let whole : sum counts ≡ sum (take k counts) + rest = omega (arith, more, here) in
+    rw (whole, drop-take (sum (take k counts)) rest bones) (take-take (get_or counts k 0) rest (drop (sum (take k counts)) bones) (omega arith))

@@ -1,0 +1,8 @@
+-- Lists taken place by place.
+use Rattle.std.specs.Prelude.{List, [], ◌∷◌}
+
+-- the results of a function of the entries at each place, as far as both lists go
+abbrev pub zip_with : {A B C : Type 0} → (A → B → C) → List A → List B → List C
+zip_with f [] ys = []
+zip_with f (x ∷ xs) [] = []
+zip_with f (x ∷ xs) (y ∷ ys) = f x y ∷ zip_with f xs ys

@@ -1,0 +1,26 @@
+-- A command follows its plan up to the text that it is to write, or stops for a cause.
+use Rattle.std.specs.Prelude.{◌≡◌, ℕ, Result, Ok, Err, ⊤}
+use Rattle.sk_base.specs.Causes.{Rose}
+use Rattle.sk_base.specs.Files.{Folder, Selection}
+use Rattle.sk_bench.specs.declared.status.Output.{Output}
+use Rattle.sk_bench.specs.declared.status.Stop.{Stop}
+use Rattle.sk_bench.specs.declared.status.Stop.TheVariants as stop
+use Rattle.sk_bench.specs.Plan.{Plan, Write, Read, Unstated, Ended, Reaches, Agrees, IsShaky, IsUnstated, GaveTooMuch}
+
+-- why a command may stop
+abbrev pub HasStopped : Folder → Selection → ℕ → ℕ → Plan → Stop → Type 0
+HasStopped folder now before after plan stop.ReadFault = Rose before after × Reaches (Agrees folder) (IsShaky folder) plan
+HasStopped folder now before after plan stop.TooLong = Reaches (Agrees folder) (GaveTooMuch folder now.given) plan
+HasStopped folder now before after plan stop.NoMemory = ⊤
+
+-- the text is that of the plan, over what the files gave, or the command stopped
+abbrev pub Follows : Folder → Selection → Selection → ℕ → ℕ → Plan → Result Output Stop → Type 0
+Follows folder was now before after plan (Ok output) = Ended folder now.given was.given plan output.ending output.text.items
+Follows folder was now before after plan (Err stop) = HasStopped folder now before after plan stop
+
+-- without any more files, the text is that of the plan, or memory was refused
+abbrev pub Prepares : Plan → Result Output Stop → Type 0
+Prepares (Write ending text) (Ok output) = (output.ending ≡ ending) × (output.text.items ≡ text)
+Prepares (Read name limit next) (Ok output) = ⊥
+Prepares Unstated (Ok output) = IsUnstated output.ending
+Prepares plan (Err reason) = reason ≡ stop.NoMemory

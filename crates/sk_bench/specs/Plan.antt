@@ -1,0 +1,65 @@
+-- What a command does with the outside: it reads files one after another, each as the ones before say, and then writes a text.
+use Rattle.std.specs.Prelude.{◌≡◌, ◌⊎◌, ℕ, ◌+◌, ◌<◌, ◌≤◌, IsTrue, IsFalse, IfSome, List, [], ◌∷◌, length, Option, Some}
+use Rattle.sk_base.specs.Files.{Folder}
+use Rattle.sk_bench.specs.declared.status.Ending.{Ending}
+use Rattle.sk_bench.specs.declared.status.Ending.TheVariants as ended
+
+-- the text that is written in the end, or the file whose turn it is, its limit, and what its bytes lead to; where it isn't
+-- stated yet how the work ends, it is Done or Job with any text, until the next command states it
+pub data Plan : Type 0 where
+  Write : Ending → List ℕ → Plan
+  Read : List ℕ → ℕ → (List ℕ → Plan) → Plan
+  Unstated : Plan
+
+-- these are the bytes of the file, as far as it tells them
+abbrev pub Agrees : Folder → List ℕ → List ℕ → Type 0
+Agrees folder name bytes = IfSome (folder.told name) (λ told. bytes ≡ told)
+
+-- the file tells that these are its bytes
+abbrev pub IsTold : Folder → List ℕ → List ℕ → Type 0
+IsTold folder name bytes = folder.told name ≡ Some bytes
+
+-- the file is steady and tells that these are its bytes
+abbrev pub IsSteady : Folder → List ℕ → List ℕ → Type 0
+IsSteady folder name bytes = IsTrue (folder.steady name) × (folder.told name ≡ Some bytes)
+
+-- an ending that an unstated plan allows
+abbrev pub IsUnstated : Ending → Type 0
+IsUnstated ending = (ending ≡ ended.Done) ⊎ (ending ≡ ended.Job)
+
+-- the plan came to its end with this text: each file whose turn came had bytes within its limit, those that it tells where
+-- it tells them, and gave just so many; so the last one's number is what the selection now says, and `gave` is that of the
+-- file before
+abbrev pub Ended : Folder → ℕ → ℕ → Plan → Ending → List ℕ → Type 0
+Ended folder given gave (Write as_said said) ending text = (ending ≡ as_said) × (text ≡ said) × (given ≡ gave)
+Ended folder given gave (Read name limit next) ending text =
+    (bytes : List ℕ) × Agrees folder name bytes × (length bytes ≤ limit) × Ended folder given (length bytes) (next bytes) ending text
+Ended folder given gave Unstated ending text = IsUnstated ending × (given ≡ gave)
+
+-- the files say that the plan ends with this text: each whose turn comes has bytes of which P holds, within its limit
+abbrev pub Ends : (List ℕ → List ℕ → Type 0) → Plan → Ending → List ℕ → Type 0
+Ends P (Write as_said said) ending text = (ending ≡ as_said) × (text ≡ said)
+Ends P (Read name limit next) ending text = (bytes : List ℕ) × P name bytes × (length bytes ≤ limit) × Ends P (next bytes) ending text
+Ends P Unstated ending text = ⊥
+
+-- the turn comes of a file of which Q holds, after files with bytes of which P holds, within their limits
+abbrev pub Reaches : (List ℕ → List ℕ → Type 0) → (List ℕ → ℕ → Type 0) → Plan → Type 0
+Reaches P Q (Write ending text) = ⊥
+Reaches P Q (Read name limit next) = Q name limit ⊎ ((bytes : List ℕ) × P name bytes × (length bytes ≤ limit) × Reaches P Q (next bytes))
+Reaches P Q Unstated = ⊥
+
+-- the file isn't steady
+abbrev pub IsShaky : Folder → List ℕ → ℕ → Type 0
+IsShaky folder name limit = IsFalse (folder.steady name)
+
+-- the file gave one byte more than its limit, and has more where it tells
+abbrev pub GaveTooMuch : Folder → ℕ → List ℕ → ℕ → Type 0
+GaveTooMuch folder given name limit = (given ≡ limit + 1) × IfSome (folder.told name) (λ told. limit < length told)
+
+-- the file tells more bytes than its limit
+abbrev pub IsTooLong : Folder → List ℕ → ℕ → Type 0
+IsTooLong folder name limit = (bytes : List ℕ) × IsTold folder name bytes × (limit < length bytes)
+
+-- the same, of a steady file
+abbrev pub IsSteadyTooLong : Folder → List ℕ → ℕ → Type 0
+IsSteadyTooLong folder name limit = IsTrue (folder.steady name) × IsTooLong folder name limit

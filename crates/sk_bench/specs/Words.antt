@@ -1,0 +1,21 @@
+-- The words of a command line.
+use Rattle.std.specs.Prelude.{ℕ, ◌&&◌, nat_le, Bool, List, [], ◌∷◌, length, Option, None, Some, codes, option_map, if◌then◌else◌}
+use Rattle.std.specs.Char.{is_ascii_digit}
+use Rattle.std.specs.List.{list_all}
+use Rattle.std.specs.Str.{bytes_eq}
+use Rattle.std.specs.Str.Parse.{digits_value}
+use Rattle.sk_bench.specs.declared.kinds.Command.{Command}
+use Rattle.sk_bench.specs.declared.kinds.Command.TheVariants.{Run}
+
+-- the word has 1 to 10 digits, and nothing else
+abbrev pub is_number : List ℕ → Bool
+is_number word = nat_le 1 (length word) && nat_le (length word) 10 && list_all is_ascii_digit word
+
+-- the number that such a word writes, where it is at most this one
+abbrev pub number_up_to : ℕ → List ℕ → Option ℕ
+number_up_to most word = if is_number word && nat_le (digits_value 10 word) most then Some (digits_value 10 word) else None
+
+-- the command that the words are: `run DEF JOB N`
+abbrev pub command_of : List (List ℕ) → Option Command
+command_of (word ∷ _ ∷ _ ∷ depth ∷ []) = if bytes_eq word (codes "run") then option_map Run (number_up_to 64 depth) else None
+command_of _ = None

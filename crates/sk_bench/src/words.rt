@@ -1,0 +1,57 @@
+//! The words of the command line.
+ghost use Rattle.std.specs.Prelude.{◌≡◌, map, option_map, string_bytes};
+ghost use Rattle.std.specs.Char.{is_ascii_digit};
+ghost use Rattle.std.specs.List.{list_all};
+ghost use Rattle.sk_bench.specs.declared.kinds.Command.TheVariants.{Run};
+ghost use Rattle.sk_bench.specs.Words.{is_number, number_up_to, command_of};
+
+use crate::Command;
+
+/// The greatest depth of `run`.
+const MOST_DEPTH: u32 = 64;
+
+/// The command that the words are, none where they fit no row: `run DEF JOB N`, where N has 1 to 10 digits and is at most 64.
+pub fn command(words: &[String]) -> Option<Command>
+    ensures { result ≡ command_of (map string_bytes words.now) }
+{
+    match words {
+        [word, _, _, depth] if word.as_str() == "run" => run(depth.as_str()),
+        _ => None,
+    }
+}
+
+/// The command `run` with this depth.
+fn run(depth: &str) -> Option<Command>
+    ensures { result ≡ option_map Run (number_up_to MOST_DEPTH depth.now) }
+{
+    number(depth, MOST_DEPTH).map(|depth| Command::Run { depth })
+}
+
+/// The number that a word of 1 to 10 digits writes, where it is at most this one.
+fn number(word: &str, most: u32) -> Option<u32>
+    ensures { result ≡ number_up_to most word.now }
+{
+    if !is_number(word.as_bytes()) {
+        return None;
+    }
+    match word.parse::<u32>() {
+        Ok(value) if value <= most => Some(value),
+        _ => None,
+    }
+}
+
+/// Whether a word has 1 to 10 digits, and nothing else.
+fn is_number(word: &[u8]) -> bool
+    ensures { result ≡ is_number word.now }
+{
+    if word.is_empty() || word.len() > 10 {
+        return false;
+    }
+    all_digits(word)
+}
+
+fn all_digits(word: &[u8]) -> bool
+    ensures { result ≡ list_all is_ascii_digit word.now }
+{
+    word.iter().all(|byte| byte.is_ascii_digit())
+}

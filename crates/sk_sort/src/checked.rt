@@ -1,0 +1,122 @@
+//! The sort check of a definition.
+ghost use Rattle.std.specs.Prelude.{◌≡◌, ◌≤◌, ◌↔◌, length, All, None, OnOk, IfOk};
+ghost use Rattle.sk_def.specs.declared.def.Def.{Def};
+ghost use Rattle.sk_def.specs.Fits.{DefinitionFits};
+ghost use Rattle.sk_sort.specs.Rules.{RuleIsSorted};
+ghost use Rattle.sk_sort.specs.Definition.{bad_rule, missing_constructor, missing_rule, checked_fault, first_fault, AnswersFault, DefinitionIsSorted, IsWellSorted};
+
+use crate::interp::SortStop;
+use crate::rule::check_rule;
+use crate::{SortError, SortFault};
+use sk_def::{ConId, Def, HookId, SortId, definition_fits};
+use std::alloc::Global;
+use std::marker::Model;
+
+/// A definition that is well sorted.
+#[derive(Drop)]
+pub struct Checked {
+    def: Def,
+}
+
+impl Model for Checked {
+    ghost Value = { Def };
+
+    ghost view = { λ c. c.def };
+
+    ghost invariant = { λ c. DefinitionIsSorted c.def };
+}
+
+impl Checked {
+    pub fn def(&self) -> &Def
+        ensures is { result.now ≡ self.now }
+        ensures sorted { DefinitionIsSorted self.now }
+    {
+        &self.def
+    }
+}
+
+/// Checks the sorts of a definition. A definition with a fault is dropped; the fault is the first one.
+pub fn check_sorts(alloc: Global, def: Def) -> Result<Checked, SortFault>
+    ensures answers { AnswersFault (first_fault def) result }
+    ensures same { IfOk result (λ checked. checked ≡ def) }
+{
+    if !definition_fits(&def) {
+        return Err(SortFault::Bad {
+            why: SortError::Undefined,
+            rule: 0,
+            bone: 0,
+        });
+    }
+    match check_all(alloc, &def) {
+        Ok(()) => Ok(Checked { def }),
+        Err(fault) => Err(fault),
+    }
+}
+
+/// The checks of all rules, and then that none is missing.
+fn check_all(alloc: Global, def: &Def) -> Result<(), SortFault>
+    requires { DefinitionFits def.now }
+    ensures answers { AnswersFault (checked_fault def.now) result }
+    ensures sorted { OnOk result (All (RuleIsSorted def.now) def.now.rules) }
+{
+    check_rules(alloc, def)?;
+    check_complete(def)
+}
+
+/// The checks of all rules.
+fn check_rules(alloc: Global, def: &Def) -> Result<(), SortFault>
+    requires { DefinitionFits def.now }
+    ensures answers { AnswersFault (bad_rule def.now 0 def.now.rules) result }
+    ensures sorted { OnOk result (All (RuleIsSorted def.now) def.now.rules) }
+{
+    let rules = def.rules.as_slice();
+    for (place, rule) in rules.iter().enumerate() {
+        match check_rule(alloc, def, &rules[..place], rule) {
+            Ok(()) => {}
+            Err(SortStop::Bad { why, bone }) => {
+                return Err(SortFault::Bad {
+                    why,
+                    rule: place,
+                    bone,
+                });
+            }
+            Err(SortStop::NoMemory) => return Err(SortFault::NoMemory),
+        }
+    }
+    Ok(())
+}
+
+/// Each hook has a rule for each constructor of its sort.
+fn check_complete(def: &Def) -> Result<(), SortFault>
+    requires { DefinitionFits def.now }
+    ensures { AnswersFault (missing_rule def.now 0 def.now.hooks) result }
+{
+    for (place, hook) in def.hooks.as_slice().iter().enumerate() {
+        let id = HookId(place as u8);
+        if let Some(con) = missing_constructor(def, id, hook.sort) {
+            return Err(SortFault::MissingRule { hook: id, con });
+        }
+    }
+    Ok(())
+}
+
+/// The first constructor of the sort for which the hook has no rule.
+fn missing_constructor(def: &Def, hook: HookId, sort: SortId) -> Option<ConId>
+    requires { length def.now.cons ≤ 128 }
+    ensures { result ≡ missing_constructor def.now hook sort 0 def.now.cons }
+{
+    for (place, con) in def.cons.as_slice().iter().enumerate() {
+        let id = ConId(place as u8);
+        if con.sort == sort && def.rule_of(hook, id).is_none() {
+            return Some(id);
+        }
+    }
+    None
+}
+
+/// A law of the definitions: a definition is well sorted exactly where it has no fault.
+pub fn is_well_sorted_exactly(def: &Def)
+    ensures { IsWellSorted def.now ↔ (first_fault def.now ≡ None) }
+{
+    let _def = def;
+}

@@ -1,0 +1,15 @@
+//! Whether a definition is well sorted, and its first fault where it isn't. The checks are an interpretation that
+//! the walker walks; every reading of rules takes the `Checked` that they give.
+#![tactic(auto)]
+
+mod checked;
+mod checks;
+mod defines;
+mod error;
+mod header;
+mod interp;
+mod rule;
+
+pub use checked::{Checked, check_sorts, is_well_sorted_exactly};
+pub use error::{SortError, SortFault};
+pub use interp::{SortInterp, SortStop};

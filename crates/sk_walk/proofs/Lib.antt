@@ -1,0 +1,4 @@
+pub mod Checks
+pub mod Bones
+pub mod Branches
+pub mod Simulation
