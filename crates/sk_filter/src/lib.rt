@@ -10,3 +10,6 @@ mod single;
 pub use arg::Arg;
 pub use filters::apply;
 pub use results::Results;
+
+#[cfg(test)]
+mod tests;
