@@ -86,10 +86,10 @@ place_on text from to place end h k p e =
     let second = e ∙ place_is between (length between) (omega arith) ∙ ap (λ bytes. record { line = lines bytes + 1; column = since bytes + 1 }) whole in
     let last = place_is text to k ∙ ap (λ bytes. record { line = lines bytes + 1; column = since bytes + 1 }) (cut text from to h) in
     let line : place.line + (end.line - 1) ≡ lines (take from text ++ between) + 1 =
-        omega (arith, ap (λ (q : Place). q.line) first, ap (λ (q : Place). q.line) second, sum_by-append (λ (y : ℕ). cond (is_line_feed y) 1 0) (take from text) between) in
+    omega (arith, ap (λ (q : Place). q.line) first, ap (λ (q : Place). q.line) second, sum_by-append (λ (y : ℕ). cond (is_line_feed y) 1 0) (take from text) between) in
     let column : column_after place.column end.line end.column ≡ since (take from text ++ between) + 1 =
-        ap (λ (q : Place). column_after q.column end.line end.column) first ∙ ap (λ (q : Place). column_after (since (take from text) + 1) q.line q.column) second
-        ∙ sym (columns (take from text) between) in
+    ap (λ (q : Place). column_after q.column end.line end.column) first ∙ ap (λ (q : Place). column_after (since (take from text) + 1) q.line q.column) second
+    ∙ sym (columns (take from text) between) in
     ap (λ n. record { line = n; column = column_after place.column end.line end.column }) line ∙ ap (λ n. record { line = lines (take from text ++ between) + 1; column = n }) column ∙ sym last
 
 pub both_parts : (a b : Place) → a.line ≡ b.line → a.column ≡ b.column → a ≡ b

@@ -1,2 +1,6 @@
+pub mod Bones
 pub mod Columns
-pub mod Finished
+pub mod Fulfilled
+pub mod Kept
+pub mod Moves
+pub mod Standing

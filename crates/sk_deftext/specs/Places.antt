@@ -1,10 +1,12 @@
 -- Where the parts of a definition stand.
-use Rattle.std.specs.Prelude.{◌≡◌, ℕ, ◌+◌, ◌-◌, ◌≤◌, ◌==◌, if◌then◌else◌, List, length, drop, slice_get, option_and_then, Option}
+use Rattle.std.specs.Prelude.{◌≡◌, ◌≢◌, ℕ, ◌+◌, ◌-◌, ◌≤◌, ◌==◌, if◌then◌else◌, List, length, drop, slice_get, option_and_then, Option, Some, None}
 use Rattle.sk_base.specs.Place.{place_at}
 use Rattle.sk_base.specs.declared.place.Place.{Place}
 use Rattle.sk_lex.specs.Symbols.{offset_of}
 use Rattle.sk_lex.specs.declared.token.Token.{Token}
+use Rattle.sk_def.specs.declared.def.Rule.{Rule}
 use Rattle.sk_deftext.specs.declared.source.Places.{Places}
+use Rattle.sk_deftext.specs.declared.source.Source.{Source}
 
 -- the place in a text of the token of this number
 abbrev pub place_in : List ℕ → List Token → ℕ → Place
@@ -22,3 +24,8 @@ column_after column line own = if line == 1 then column + (own - 1) else own
 pub record Stands (text : List ℕ) (at : ℕ) (place : Place) : Type 0 where
   pub within : at ≤ length text
   pub place_is : place ≡ place_at text at
+
+-- each hook and each part of each rule has its place
+pub record PlacesFit (source : Source) : Type 0 where
+  pub hooks_placed : length source.places.hooks ≡ length source.def.hooks
+  pub rules_placed : (rule part : ℕ) (r : Rule) → slice_get source.def.rules rule ≡ Some r → part ≤ length r.bones + 1 → place_of_part source.places rule part ≢ None

@@ -119,13 +119,7 @@ pub(crate) fn rule_places(
     let mut cursor = Cursor::new();
     let mut places = Seq::new(alloc);
     for numbers in rules {
-        places.push(places_of(
-            alloc,
-            text,
-            tokens,
-            &mut cursor,
-            numbers.as_slice(),
-        )?)?;
+        places.push(places_of(alloc, text, tokens, &mut cursor, numbers.as_slice())?)?;
     }
     Ok(places)
 }
