@@ -1,6 +1,6 @@
 //! A list that grows and shrinks at its front.
 
-ghost use Rattle.std.specs.Prelude.{◌≡◌, [], ◌∷◌, OnOk, OnErr, MatchOption, length};
+ghost use Rattle.std.specs.Prelude.{◌≡◌, [], ◌∷◌, Some, OnOk, OnErr, MatchOption, length, slice_get};
 
 use crate::NoMemory;
 use std::alloc::Global;
@@ -44,6 +44,13 @@ impl<E: Drop> Stack<E> {
         ensures { MatchOption result ((self.old ≡ []) × (self.new ≡ [])) (λ entry. self.old ≡ entry ∷ self.new) }
     {
         self.entries.pop()
+    }
+
+    /// The top.
+    pub fn top(&self) -> Option<&E>
+        ensures { MatchOption result (self.now ≡ []) (λ entry. slice_get self.now 0 ≡ Some entry.now) }
+    {
+        self.entries.last()
     }
 
     /// How many entries there are.

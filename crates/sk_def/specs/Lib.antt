@@ -1,6 +1,7 @@
 pub mod Filters
 pub mod Fits
 pub mod Layout
+pub mod Named
 pub mod Rules
 pub mod Same
 pub mod Signatures

@@ -1,6 +1,7 @@
 //! Definitions.
-ghost use Rattle.std.specs.Prelude.{◌≡◌};
+ghost use Rattle.std.specs.Prelude.{◌≡◌, ◌<◌, ◌≤◌, length, IfSome};
 ghost use Rattle.std.specs.Option.{option_copied};
+ghost use Rattle.sk_def.specs.Named.{con_named, hook_named, place_of_con, place_of_hook};
 ghost use Rattle.sk_def.specs.Rules.{rule_of};
 
 use crate::{
@@ -49,6 +50,22 @@ pub struct Def {
     pub rules: RuleList,
 }
 
+/// The first place of a constructor of this name.
+fn place_of_con(cons: &[Con], word: &[u8]) -> Option<usize>
+    ensures place { result ≡ place_of_con cons.now word.now }
+    ensures within { IfSome result (λ place. place < length cons.now) }
+{
+    cons.iter().position(|con| con.name.is(word))
+}
+
+/// The first place of a hook of this name.
+fn place_of_hook(hooks: &[Hook], word: &[u8]) -> Option<usize>
+    ensures place { result ≡ place_of_hook hooks.now word.now }
+    ensures within { IfSome result (λ place. place < length hooks.now) }
+{
+    hooks.iter().position(|hook| hook.name.is(word))
+}
+
 impl Def {
     /// The first rule of the hook and the constructor, none exactly where there is none.
     pub fn rule_of(&self, hook: HookId, con: ConId) -> Option<&Rule>
@@ -58,5 +75,25 @@ impl Def {
             .as_slice()
             .iter()
             .find(|rule| rule.hook == hook && rule.con == con)
+    }
+
+    /// The constructor of a name, none exactly where there is none.
+    pub fn con_named(&self, word: &[u8]) -> Option<ConId>
+        requires { length self.now.cons ≤ 128 }
+        ensures found { result ≡ con_named self.now word.now }
+        ensures declared { IfSome result (λ con. con.0 < length self.now.cons) }
+    {
+        let place = place_of_con(self.cons.as_slice(), word)?;
+        Some(ConId(place as u8))
+    }
+
+    /// The hook of a name, none exactly where there is none.
+    pub fn hook_named(&self, word: &[u8]) -> Option<HookId>
+        requires { length self.now.hooks ≤ 8 }
+        ensures found { result ≡ hook_named self.now word.now }
+        ensures declared { IfSome result (λ hook. hook.0 < length self.now.hooks) }
+    {
+        let place = place_of_hook(self.hooks.as_slice(), word)?;
+        Some(HookId(place as u8))
     }
 }

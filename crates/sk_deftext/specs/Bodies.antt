@@ -1,0 +1,197 @@
+-- Rules: their headers, and bones with branches.
+use Rattle.std.specs.Prelude.{ℕ, ◌-◌, nat_lt, Bool, true, if◌then◌else◌, List, [], ◌∷◌, ◌++◌, length, position, slice_set, option_map, Option, Some, None, Err}
+use Rattle.std.specs.Str.{bytes_eq}
+use Rattle.sk_base.specs.Last.{with_last}
+use Rattle.sk_base.specs.Names.{with_name}
+use Rattle.sk_def.specs.Filters.{filter_named}
+use Rattle.sk_def.specs.declared.filter.Filter.{Filter}
+use Rattle.sk_def.specs.declared.ids.HookId.{HookId}
+use Rattle.sk_def.specs.declared.ids.ConId.{ConId}
+use Rattle.sk_def.specs.declared.ids.Var.{Var}
+use Rattle.sk_def.specs.declared.def.Con.{Con}
+use Rattle.sk_def.specs.declared.def.Hook.{Hook}
+use Rattle.sk_def.specs.declared.bone.Target.{Target}
+use Rattle.sk_def.specs.declared.bone.Target.TheVariants.{Own, Sub}
+use Rattle.sk_def.specs.declared.bone.Bone.{Bone}
+use Rattle.sk_def.specs.declared.bone.Bone.TheVariants.{Apply, Call, Either}
+use Rattle.sk_deftext.specs.Met.{Met, met}
+use Rattle.sk_deftext.specs.Words.{keyword_of}
+use Rattle.sk_deftext.specs.declared.draft.Draft.{Draft}
+use Rattle.sk_deftext.specs.declared.draft.OpenBone.{OpenBone}
+use Rattle.sk_deftext.specs.declared.expected.Body.{Body}
+use Rattle.sk_deftext.specs.declared.expected.Body.TheVariants.{Rule, Branch}
+use Rattle.sk_deftext.specs.declared.expected.Listed.{Listed}
+use Rattle.sk_deftext.specs.declared.expected.Listed.TheVariants.{BoneArgs, BoneOuts, Exports}
+use Rattle.sk_deftext.specs.declared.expected.Expected.{Expected}
+use Rattle.sk_deftext.specs.declared.expected.Expected.TheVariants.{Open, Arrow, First, More, Bones, BoneTarget, BranchOpen, OrFirst, OrMore}
+use Rattle.sk_deftext.specs.declared.fault.DefError.TheVariants.{Unexpected, Unknown, TooMany}
+use Rattle.sk_deftext.specs.declared.fault.Which.TheVariants as which
+use Rattle.sk_deftext.specs.declared.bone.Opening.{Opening}
+use Rattle.sk_deftext.specs.declared.bone.Opening.TheVariants as opening
+use Rattle.sk_deftext.specs.declared.word.Keyword.{Keyword}
+use Rattle.sk_deftext.specs.declared.word.Keyword.TheVariants as keyword
+
+-- the first place of a constructor of this name, and of a hook
+abbrev pub place_of_con : List Con → List ℕ → Option ℕ
+place_of_con cons word = position (λ con. bytes_eq con.name word) cons
+
+abbrev pub place_of_hook : List Hook → List ℕ → Option ℕ
+place_of_hook hooks word = position (λ hook. bytes_eq hook.name word) hooks
+
+-- the hook of a name, and the constructor
+abbrev pub hook_named : List Hook → List ℕ → Option HookId
+hook_named hooks word = option_map (λ place. record { 0 = place }) (place_of_hook hooks word)
+
+abbrev pub con_named : List Con → List ℕ → Option ConId
+con_named cons word = option_map (λ place. record { 0 = place }) (place_of_con cons word)
+
+abbrev pub with_hook : Draft → Option HookId → Met
+with_hook draft None = Err Unknown
+with_hook draft (Some hook) = met (record draft { hook = hook }) []
+
+unfoldable pub rule_hook : Draft → Option (List ℕ) → Met
+rule_hook draft None = Err Unexpected
+rule_hook draft (Some word) = with_hook draft (hook_named draft.def.hooks word)
+
+abbrev pub with_con : Draft → Option ConId → Met
+with_con draft None = Err Unknown
+with_con draft (Some con) = met (record draft { con = con }) []
+
+unfoldable pub rule_con : Draft → Option (List ℕ) → Met
+rule_con draft None = Err Unexpected
+rule_con draft (Some word) = with_con draft (con_named draft.def.cons word)
+
+-- a variable of a list, among the rule's variables by first appearance
+abbrev pub with_variable : Draft → Listed → Option (ℕ × List (List ℕ)) → Met
+with_variable draft list None = Err (TooMany which.Variables)
+with_variable draft list (Some (place, vars)) = met (record draft { vars = vars; listed = draft.listed ++ record { 0 = place } ∷ [] }) (More list ∷ [])
+
+unfoldable pub variable : Draft → Listed → Option (List ℕ) → Met
+variable draft list None = Err Unexpected
+variable draft list (Some word) =
+    if nat_lt (length draft.listed) 8 then with_variable draft list (with_name draft.vars word) else Err (TooMany which.Arguments)
+
+-- what a word is at the start of a bone
+abbrev pub opened_by : Option Filter → Option Keyword → Option HookId → Opening
+opened_by (Some filter) key hook = opening.Filter filter
+opened_by None (Some keyword.Either) hook = opening.Branches
+opened_by None (Some other) hook = opening.Keyword
+opened_by None None (Some hook) = opening.Hook hook
+opened_by None None None = opening.Unknown
+
+unfoldable pub opening_of : List Hook → List ℕ → Opening
+opening_of hooks word = opened_by (filter_named word) (keyword_of word) (hook_named hooks word)
+
+-- a bone begins at a place: it goes last, and its parts come later
+abbrev pub with_bone : Draft → ℕ → Bone → List Expected → Met
+with_bone draft at bone expected = met (record draft { bones = draft.bones ++ bone ∷ []; marks = draft.marks ++ at ∷ []; target = Own }) expected
+
+abbrev pub with_branches : Draft → ℕ → List Expected → Met
+with_branches draft at expected =
+    if nat_lt (length draft.unclosed) 8
+    then with_bone (record draft { unclosed = record { place = length draft.bones; start = 0; counts = [] } ∷ draft.unclosed }) at (Either [] []) expected
+    else Err (TooMany which.Nesting)
+
+abbrev pub begun : Draft → Body → ℕ → Opening → Met
+begun draft body at opening.Keyword = Err Unexpected
+begun draft body at opening.Unknown = Err Unknown
+begun draft body at (opening.Filter filter) = with_bone draft at (Apply filter [] []) (Open ∷ First BoneArgs ∷ Arrow ∷ Open ∷ First BoneOuts ∷ Bones body ∷ [])
+begun draft body at (opening.Hook hook) = with_bone draft at (Call hook [] Own []) (Open ∷ First BoneArgs ∷ BoneTarget ∷ Arrow ∷ Open ∷ First BoneOuts ∷ Bones body ∷ [])
+begun draft body at opening.Branches = with_branches draft at (BranchOpen ∷ Bones Branch ∷ OrFirst ∷ BranchOpen ∷ Bones Branch ∷ OrMore ∷ Bones body ∷ [])
+
+abbrev pub may_begin : Opening → Bool → Bool
+may_begin opening.Keyword room = true
+may_begin other room = room
+
+unfoldable pub bone : Draft → Body → ℕ → Option (List ℕ) → Met
+bone draft body at None = Err Unexpected
+bone draft body at (Some word) =
+    if may_begin (opening_of draft.def.hooks word) (nat_lt (length draft.bones) 64) then begun draft body at (opening_of draft.def.hooks word) else Err (TooMany which.Bones)
+
+-- `self`, or the variable of the term that a hook bone evaluates
+abbrev pub with_target : Draft → Option (ℕ × List (List ℕ)) → Met
+with_target draft None = Err (TooMany which.Variables)
+with_target draft (Some (place, vars)) = met (record draft { vars = vars; target = Sub (record { 0 = place }) }) []
+
+abbrev pub target_word : Draft → List ℕ → Option Keyword → Met
+target_word draft word None = with_target draft (with_name draft.vars word)
+target_word draft word (Some keyword.Own) = met draft []
+target_word draft word (Some other) = Err Unexpected
+
+unfoldable pub target : Draft → Option (List ℕ) → Met
+target draft None = Err Unexpected
+target draft (Some word) = target_word draft word (keyword_of word)
+
+-- a branch begins in the innermost open branch bone, and ends
+abbrev pub branch_begun : Draft → List OpenBone → Met
+branch_begun draft [] = Err Unexpected
+branch_begun draft (one ∷ outer) =
+    if nat_lt (length one.counts) 8 then met (record draft { unclosed = record one { start = length draft.bones } ∷ outer }) [] else Err (TooMany which.Branches)
+
+abbrev pub branch_ended : Draft → List OpenBone → Met
+branch_ended draft [] = Err Unexpected
+branch_ended draft (one ∷ outer) = met (record draft { unclosed = record one { counts = one.counts ++ (length draft.bones - one.start) ∷ [] } ∷ outer }) []
+
+-- the `}` after bones
+unfoldable pub left_brace : Draft → Body → Met
+left_brace draft Rule = met draft []
+left_brace draft Branch = branch_ended draft draft.unclosed
+
+-- `or` after the first branch, and `or` or `with` after a later one
+unfoldable pub or_first : Draft → Option Keyword → Met
+or_first draft (Some keyword.Or) = met draft []
+or_first draft other = Err Unexpected
+
+unfoldable pub or_more : Draft → Option Keyword → Met
+or_more draft (Some keyword.Or) = met draft (BranchOpen ∷ Bones Branch ∷ OrMore ∷ [])
+or_more draft (Some keyword.With) = met draft (Open ∷ First Exports ∷ [])
+or_more draft other = Err Unexpected
+
+-- what becomes of a list of variables at its end
+abbrev pub listed_terms : Draft → Draft
+listed_terms draft = record draft { terms = draft.listed; listed = [] }
+
+abbrev pub listed_inputs : Draft → Draft
+listed_inputs draft = record draft { rule_inputs = draft.listed; listed = [] }
+
+abbrev pub with_args : Draft → Draft
+with_args draft = record draft { bone_args = draft.listed; listed = [] }
+
+-- a bone with its parts
+abbrev pub with_parts : List Var → Target → List Var → Bone → Bone
+with_parts args target outs (Apply filter none empty) = Apply filter args outs
+with_parts args target outs (Call hook none own empty) = Call hook args target outs
+with_parts args target outs (Either counts exports) = Either counts exports
+
+abbrev pub finished_bone : Draft → Draft
+finished_bone draft = record draft { bones = with_last (with_parts draft.bone_args draft.target draft.listed) draft.bones; bone_args = []; listed = [] }
+
+abbrev pub branches_ended : Draft → List OpenBone → Met
+branches_ended draft [] = Err Unexpected
+branches_ended draft (one ∷ outer) =
+    met (record draft { bones = slice_set draft.bones one.place (Either one.counts draft.listed); unclosed = outer; listed = [] }) []
+
+abbrev pub finished_branches : Draft → Met
+finished_branches draft = branches_ended draft draft.unclosed
+
+abbrev pub finished_rule : Draft → Draft
+finished_rule draft = record draft {
+  def = record draft.def {
+    rules = draft.def.rules ++ record {
+      hook = draft.hook;
+      con = draft.con;
+      vars = draft.vars;
+      terms = draft.terms;
+      inputs = draft.rule_inputs;
+      bones = draft.bones;
+      outputs = draft.listed;
+    } ∷ [];
+  };
+  rules = draft.rules ++ draft.marks ∷ [];
+  marks = [];
+  vars = [];
+  terms = [];
+  rule_inputs = [];
+  bones = [];
+  listed = [];
+}

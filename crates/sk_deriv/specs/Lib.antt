@@ -1,0 +1,8 @@
+pub mod Env
+pub mod Exchange
+pub mod Forest
+pub mod Listing
+pub mod Moves
+pub mod Program
+pub mod Results
+pub mod Tree

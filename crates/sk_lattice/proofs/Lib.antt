@@ -1,0 +1,11 @@
+pub mod Antisymmetry
+pub mod Falling
+pub mod Kept
+pub mod Meets
+pub mod PaddingLemmas
+pub mod Parts
+pub mod Pushes
+pub mod SortLemmas
+pub mod Sorted
+pub mod Tuples
+pub mod Widening

@@ -1,0 +1,5 @@
+pub mod Sets
+pub mod Signs
+pub mod Tables
+pub mod Laws
+pub mod Best
