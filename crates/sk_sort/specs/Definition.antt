@@ -39,7 +39,7 @@ abbrev pub checked_fault : Def → Option SortFault
 checked_fault d = option_or (bad_rule d 0 d.rules) (missing_rule d 0 d.hooks)
 
 -- The first fault. A definition that is past its limits, or has a number that isn't of its lists, is refused
--- before all checks, as `Undefined` at the header of its first rule. No text gives such a definition.
+-- before all checks, as `Undefined` at the header of its first rule.
 abbrev pub first_fault : Def → Option SortFault
 first_fault d = if definition_fits d then checked_fault d else Some (Bad Undefined 0 0)
 
@@ -70,7 +70,7 @@ pub record RuleFound (d : Def) (hook : HookId) (con : ConId) : Type 0 where
   pub fits : RuleFits d rule
   pub sorted : RuleIsSorted d rule
 
--- each hook has a rule for each constructor of its sort
+-- each hook has a rule for each constructor of its sort, and it is sorted
 abbrev pub HasRules : Def → Type 0
 HasRules d = (hook : HookId) (con : ConId) (h : Hook) (c : Con) →
     slice_get d.hooks hook.0 ≡ Some h → slice_get d.cons con.0 ≡ Some c → c.sort.0 ≡ h.sort.0 → RuleFound d hook con
