@@ -7,3 +7,4 @@ pub mod Placed
 pub mod RulesSoFar
 pub mod WellSorted
 pub mod Vectors
+pub mod RuleFound

@@ -11,7 +11,7 @@ use sk_def::{ConId, Def, HookId, SortId, definition_fits};
 use std::alloc::Global;
 use std::marker::Model;
 
-/// A definition that is well sorted.
+/// A definition that is well sorted. Only `check_sorts` makes one.
 #[derive(Drop)]
 pub struct Checked {
     def: Def,
@@ -26,6 +26,7 @@ impl Model for Checked {
 }
 
 impl Checked {
+    /// The definition. It is well sorted, and its rules are as a walk asks.
     pub fn def(&self) -> &Def
         ensures is { result.now ≡ self.now }
         ensures sorted { DefinitionIsSorted self.now }
@@ -34,7 +35,9 @@ impl Checked {
     }
 }
 
-/// Checks the sorts of a definition. A definition with a fault is dropped; the fault is the first one.
+/// Checks the sorts of a definition. `Bad` is the first check that fails, in the order of the text;
+/// `MissingRule` comes only where none fails. A definition that is past its limits, or has a number that
+/// isn't of its lists, is `Undefined` at the header of its first rule. One with a fault is dropped.
 pub fn check_sorts(alloc: Global, def: Def) -> Result<Checked, SortFault>
     ensures answers { AnswersFault (first_fault def) result }
     ensures same { IfOk result (λ checked. checked ≡ def) }

@@ -2,7 +2,7 @@
 ghost use Rattle.std.specs.Prelude.{◌≡◌, ◌↔◌, All, None};
 ghost use Rattle.sk_def.specs.Fits.{RuleFits};
 ghost use Rattle.sk_sort.specs.Rules.{RuleIsSorted, BonesArePlaced};
-ghost use Rattle.sk_sort.specs.Definition.{first_fault, IsWellSorted};
+ghost use Rattle.sk_sort.specs.Definition.{first_fault, HasRules, IsWellSorted};
 
 use sk_def::{Con, Def, Hook, Rule};
 
@@ -30,4 +30,11 @@ pub fn bones_are_placed(def: &Def, rule: &Rule, hook: &Hook, con: &Con)
     let _rule = rule;
     let _hook = hook;
     let _con = con;
+}
+
+/// In a well-sorted definition a hook has a rule for each constructor of its sort, and that rule is sorted.
+pub fn hooks_have_rules(def: &Def)
+    ensures { IsWellSorted def.now → HasRules def.now }
+{
+    let _def = def;
 }
