@@ -1,3 +1,4 @@
+pub mod Heights
 pub mod Induction
 pub mod Prefix
 pub mod WordOrder
