@@ -5,8 +5,8 @@ use Rattle.std.proofs.lemmas.List.{drop_all}
 use Rattle.std.proofs.lemmas.List.Elements.{All-head, All-tail}
 use Rattle.sk_deriv.specs.declared.forest.Step.{Step}
 use Rattle.sk_deriv.specs.declared.forest.Node.{Node}
-use Rattle.sk_deriv.specs.Tree.{Derivation, height, greatest_height}
-use Rattle.sk_deriv.specs.Forest.{IsBelow, ChildrenFirst, steps_with, derivation_with, tree_at}
+use Rattle.sk_deriv.specs.Tree.{height, greatest_height}
+use Rattle.sk_deriv.specs.Forest.{IsBelow, ChildrenFirst, steps_with, tree_at}
 use Rattle.sk_deriv.proofs.ForestLemmas.{nodes_are_trees, children_below, below_length}
 
 -- the greatest height of the subtrees that steps name

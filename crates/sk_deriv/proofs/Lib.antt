@@ -1,3 +1,4 @@
+pub mod Cursors
 pub mod Heights
 pub mod Induction
 pub mod Prefix

@@ -6,6 +6,7 @@ mod call;
 mod entry;
 mod forest;
 mod laws;
+mod order;
 mod program;
 
 pub use call::Call;

@@ -1,4 +1,4 @@
-use Rattle.std.proofs.Common.{◌≡◌, ℕ, max, drop}
+use Rattle.std.proofs.Common.{◌≡◌, max, drop}
 use Rattle.sk_deriv.proofs.Heights.{greatest_of}
 use Rattle.sk_deriv.proofs.forest.Forest.+height.Given as goal
 
