@@ -1,3 +1,5 @@
+pub mod Cursors
+pub mod Heights
 pub mod Induction
 pub mod Prefix
 pub mod WordOrder

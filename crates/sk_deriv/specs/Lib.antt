@@ -1,3 +1,4 @@
+pub mod Cursors
 pub mod Env
 pub mod Exchange
 pub mod Forest

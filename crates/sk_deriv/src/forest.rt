@@ -1,6 +1,7 @@
 //! Forests of derivations.
 ghost use Rattle.std.specs.Prelude.{◌≡◌, ◌<◌, [], ◌∷◌, ◌++◌, Some, length, slice_get, IfOk, OnOk, OnErr, All};
-ghost use Rattle.sk_deriv.specs.Forest.{IsBelow};
+ghost use Rattle.sk_deriv.specs.Forest.{IsBelow, ChildrenFirst, tree_at};
+ghost use Rattle.sk_deriv.specs.Tree.{height};
 
 use sk_base::{NoMemory, Seq};
 use sk_def::HookId;
@@ -62,10 +63,12 @@ impl Forest {
         self.nodes.len()
     }
 
-    /// The node at a place below the length.
+    /// The node at a place below the length. Its subtrees stand before it.
     pub fn get(&self, at: usize) -> &Node
         requires { at < length self.now }
-        ensures { slice_get self.now at ≡ Some result.now }
+        ensures node { slice_get self.now at ≡ Some result.now }
+        ensures children { All (IsBelow at) result.now.steps }
+        ensures forest { ChildrenFirst self.now }
     {
         &self.nodes[at]
     }
@@ -81,5 +84,20 @@ impl Forest {
         let place = self.nodes.len();
         self.nodes.push(node)?;
         Ok(place)
+    }
+
+    /// The height of the derivation of a node that is there.
+    pub fn height(&self, node: usize) -> usize
+        requires { node < length self.now }
+        ensures { result ≡ height (tree_at self.now node) }
+    {
+        let _count = self.len();
+        let mut greatest = 0;
+        for step in self.get(node).steps.as_slice() {
+            if let Step::Sub(child) = step {
+                greatest = greatest.max(self.height(*child));
+            }
+        }
+        greatest + 1
     }
 }

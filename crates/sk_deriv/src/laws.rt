@@ -1,5 +1,6 @@
 //! The laws of derivations.
 ghost use Rattle.sk_deriv.specs.Exchange.{ExchangeKeeps};
+ghost use Rattle.sk_deriv.specs.Forest.{NodesAreTrees, TreesStay};
 ghost use Rattle.sk_deriv.specs.Listing.{ListingIsExact};
 ghost use Rattle.sk_deriv.specs.Results.{ResultsAreOne, WordsDecode};
 
@@ -21,4 +22,14 @@ pub fn exchange_keeps()
 /// The plain listing has exactly the derivations of a call to a depth, and their words strictly increase.
 pub fn listing_is_exact()
     ensures { ListingIsExact }
+{}
+
+/// A node of a forest stands for the derivation of its steps, with what the nodes of its subtrees stand for.
+pub fn nodes_are_trees()
+    ensures { NodesAreTrees }
+{}
+
+/// What the nodes of a forest stand for stays as more are added.
+pub fn trees_stay()
+    ensures { TreesStay }
 {}
