@@ -1,4 +1,5 @@
 pub mod Antisymmetry
+pub mod Endings
 pub mod Falling
 pub mod Kept
 pub mod Meets
@@ -7,5 +8,6 @@ pub mod Parts
 pub mod Pushes
 pub mod SortLemmas
 pub mod Sorted
+pub mod TextLemmas
 pub mod Tuples
 pub mod Widening

@@ -1,20 +1,22 @@
 //! Abstract flows.
 
-ghost use Rattle.std.specs.Prelude.{◌≡◌, IsTrue, IfOk, OnOk, OnErr};
+ghost use Rattle.std.specs.Prelude.{◌≡◌, ◌++◌, Some, IsTrue, IfOk, OnOk, OnErr};
+ghost use Rattle.sk_base.specs.Sink.{AppendsPrefix};
 ghost use Rattle.sk_lattice.specs.Covers.{flow_covers};
 ghost use Rattle.sk_lattice.specs.Empty.{flow_is_empty};
 ghost use Rattle.sk_lattice.specs.Merge.{way_of, flow_merge};
 ghost use Rattle.sk_lattice.specs.Order.{flow_leq, flows_fit};
 ghost use Rattle.sk_lattice.specs.Padding.{padded_flow, FlowIsPartlyPadded};
+ghost use Rattle.sk_lattice.specs.Texts.{flow_text};
 
-use crate::cell::pad_cells;
+use crate::cell::{pad_cells, put_cells};
 use crate::domain::NumDom;
 use crate::merge::Merge;
 use crate::store::AbsStore;
 use crate::truth::AbsBool;
 use crate::value::AbsVal;
-use sk_base::NoMemory;
-use sk_value::Flow;
+use sk_base::{Names, NoMemory};
+use sk_value::{Flow, put_bytes};
 use std::alloc::Global;
 
 /// What a variable of a rule may hold.
@@ -87,6 +89,20 @@ impl<D: NumDom> AbsFlow<D> {
         match self {
             AbsFlow::Store(AbsStore::Cells(cells)) => pad_cells(cells, names),
             _ => Ok(()),
+        }
+    }
+
+    /// Appends the text, in which a store lists the names that may be set. After a refusal a prefix of it was appended.
+    pub fn put_text(&self, names: &Names, out: &mut Vec<u8>) -> Result<(), NoMemory>
+        ensures ok { OnOk result (out.new.items ≡ out.old.items ++ flow_text D.domain D.texts names.now self.now) }
+        ensures err { OnErr result (AppendsPrefix (Some out.old.items) (Some out.new.items) (flow_text D.domain D.texts names.now self.now)) }
+    {
+        match self {
+            AbsFlow::Int(a) => a.put_text(out),
+            AbsFlow::Bool(a) => a.put_text(out),
+            AbsFlow::Val(a) => a.put_text(out),
+            AbsFlow::Store(AbsStore::Empty) => put_bytes(out, b"none"),
+            AbsFlow::Store(AbsStore::Cells(cells)) => put_cells(out, names, cells),
         }
     }
 

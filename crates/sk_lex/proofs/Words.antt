@@ -74,3 +74,13 @@ plain_word_spells (c ∷ cs) h =
     λ rest ok.
     piece_then c cs rest (Some Word) (word_piece c (cs ++ rest) (plain_below c p.0) q.0 ∙ word_is c cs rest all (leb-true (length cs) 63 r.1) ok)
     ∙ ap (λ bs. before (Named bs ∷ []) (symbols_from 0 rest)) (plain_bytes (c ∷ cs) all)
+
+mark_below : (c : ℕ) → (c == 44 || c == 41 || c == 47 || c == 58) ≡ true → c < 128
+mark_below c h = grind (arith, nat_tests)
+
+mark_no_word : (c : ℕ) → (c == 44 || c == 41 || c == 47 || c == 58) ≡ true → (is_ascii_alphanumeric c || (c == 95)) ≡ false
+mark_no_word c h = grind (arith, nat_tests)
+
+-- no word goes on with `,` `)` `/` or `:`
+pub mark_ends_word : (c : ℕ) → (c == 44 || c == 41 || c == 47 || c == 58) ≡ true → spec.is_in class.Word c ≡ false
+mark_ends_word c h = is_xid_continue-ascii c (mark_below c h) ∙ mark_no_word c h

@@ -13,6 +13,7 @@ use Rattle.sk_sign.specs.Signs.{One, Negative, Zero, Positive, one_of, has, both
 use Rattle.sk_sign.specs.Laws.Sets.{has_more, leq_by_members, has_set_of, has_just, union_has, union_leq, truth_has, truth_leq, same_bits}
 use Rattle.sk_sign.specs.Laws.Numbers.{single_holds, compare_at, allowed_at, negated}
 pub mod Sets
+pub mod Texts
 pub mod Numbers
 
 both_ways_or : (a b : Bool) → (a ≡ true → b ≡ true) → (b ≡ true → a ≡ true) → a ≡ b

@@ -1,8 +1,15 @@
 //! Sets of signs.
 
+ghost use Rattle.std.specs.Prelude.{◌≡◌, find};
+ghost use Rattle.std.specs.Str.{bytes_eq};
+ghost use Rattle.sk_sign.specs.Texts.{sign_text, set_named};
+
 use crate::grid::{look_up, look_up_truth};
 use crate::tables;
+use sk_base::NoMemory;
 use sk_lattice::{AbsBool, Arith, Compare, NumDom, Refine, Thresholds};
+use sk_lex::{Lexeme, Token, lexeme_at};
+use sk_value::put_bytes;
 
 /// A set of signs.
 #[derive(Clone, Copy, Debug, PartialEq, Eq)]
@@ -12,16 +19,112 @@ pub struct Sign {
     pub positive: bool,
 }
 
+/// All sets, in the order of their words.
+const ALL_SETS: [Sign; 8] = [
+    Sign {
+        negative: false,
+        zero: false,
+        positive: false,
+    },
+    Sign {
+        negative: true,
+        zero: false,
+        positive: false,
+    },
+    Sign {
+        negative: false,
+        zero: true,
+        positive: false,
+    },
+    Sign {
+        negative: false,
+        zero: false,
+        positive: true,
+    },
+    Sign {
+        negative: true,
+        zero: true,
+        positive: false,
+    },
+    Sign {
+        negative: false,
+        zero: true,
+        positive: true,
+    },
+    Sign {
+        negative: true,
+        zero: false,
+        positive: true,
+    },
+    Sign {
+        negative: true,
+        zero: true,
+        positive: true,
+    },
+];
+
+impl Sign {
+    /// The word of the set.
+    fn word(self) -> &'static [u8]
+        ensures { result.now ≡ sign_text self }
+    {
+        match (self.negative, self.zero, self.positive) {
+            (false, false, false) => b"none",
+            (true, false, false) => b"neg",
+            (false, true, false) => b"zero",
+            (false, false, true) => b"pos",
+            (true, true, false) => b"nonpos",
+            (false, true, true) => b"nonneg",
+            (true, false, true) => b"nonzero",
+            (true, true, true) => b"any",
+        }
+    }
+
+    /// Whether this is the word of the set.
+    fn has_word(&self, word: &[u8]) -> bool
+        ensures { result ≡ bytes_eq (sign_text self.now) word.now }
+    {
+        self.word() == word
+    }
+
+    /// The set of a word.
+    fn named(word: &[u8]) -> Option<Sign>
+        ensures { result ≡ set_named word.now }
+    {
+        first_named(&ALL_SETS, word)
+    }
+}
+
+/// The first of the sets with this word.
+fn first_named(sets: &[Sign], word: &[u8]) -> Option<Sign>
+    ensures { result ≡ find (λ set. bytes_eq (sign_text set) word.now) sets.now }
+{
+    for set in sets {
+        if set.has_word(word) {
+            return Some(*set);
+        }
+    }
+    None
+}
+
 impl NumDom for Sign {
     ghost use Rattle.std.specs.Prelude.{true};
     ghost use Rattle.sk_sign.specs.Signs.{sign_domain};
     ghost use Rattle.sk_sign.specs.Laws.{sign_laws, sign_finite};
+    ghost use Rattle.sk_sign.specs.Laws.Texts.{sign_text_laws};
+    ghost use Rattle.sk_sign.specs.Texts.{sign_texts};
 
     const FINITE: bool = true;
 
     ghost FINITE = { true };
 
     ghost domain = { sign_domain };
+
+    ghost texts = { sign_texts };
+
+    fn domain_word() -> &'static str {
+        "sign"
+    }
 
     fn empty() -> Sign {
         Sign {
@@ -137,7 +240,23 @@ impl NumDom for Sign {
         }
     }
 
+    fn put_text(self, out: &mut Vec<u8>) -> Result<(), NoMemory> {
+        put_bytes(out, self.word())
+    }
+
+    fn take_text(text: &[u8], tokens: &[Token], from: usize) -> Result<(Sign, usize), usize> {
+        match lexeme_at(text, tokens, from) {
+            Some(Lexeme::Word(word)) => match Sign::named(word) {
+                Some(set) => Ok((set, from + 1)),
+                None => Err(from),
+            },
+            _ => Err(from),
+        }
+    }
+
     ghost laws = { sign_laws };
 
     ghost finite = { sign_finite };
+
+    ghost text_laws = { sign_text_laws };
 }
