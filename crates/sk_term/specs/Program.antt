@@ -1,8 +1,10 @@
 -- What callers see of a program.
-use Rattle.std.specs.Prelude.{◌≡◌, ◌≤◌, ℕ, ℤ, List, [], ◌∷◌, ◌++◌, length, map, Some, Option, option_map, slice_get}
+use Rattle.std.specs.Prelude.{◌≡◌, ◌<◌, ◌≤◌, ℕ, ℤ, List, [], ◌∷◌, ◌++◌, length, map, Some, Option, option_map, slice_get}
 use Rattle.std.specs.Option.{option_map_or}
 use Rattle.sk_def.specs.declared.ids.SortId.{SortId}
 use Rattle.sk_def.specs.declared.ids.ConId.{ConId}
+use Rattle.sk_def.specs.declared.sorts.ArgSort.{ArgSort}
+use Rattle.sk_def.specs.declared.sorts.ArgSort.TheVariants as sort
 use Rattle.sk_def.specs.declared.def.Def.{Def}
 use Rattle.sk_term.specs.declared.node.Child.{Child}
 use Rattle.sk_term.specs.declared.node.Child.TheVariants.{Number, Name, Point}
@@ -51,6 +53,18 @@ children_of_point list point = option_map_or (λ (node : TermNode). node.childre
 -- a sort is that of a point's constructor
 abbrev pub IsSortOfPoint : Def → List TermNode → ℕ → SortId → Type 0
 IsSortOfPoint d list point found = option_map (sort_of_node d) (slice_get list point) ≡ Some (Some found)
+
+-- An entry has the sort of its argument: a name of the program's, or a point of the term sort.
+abbrev pub ChildFits : Def → List TermNode → ℕ → Child → ArgSort → Type 0
+ChildFits d list names (Number z) sort.Number = Unit {0}
+ChildFits d list names (Name n) sort.Name = n < names
+ChildFits d list names (Point point) (sort.Term wanted) = IsSortOfPoint d list point wanted
+ChildFits d list names _ _ = ⊥
+
+abbrev pub ChildrenFit : Def → List TermNode → ℕ → List Child → List ArgSort → Type 0
+ChildrenFit d list names [] [] = Unit {0}
+ChildrenFit d list names (child ∷ children) (wanted ∷ sorts) = ChildFits d list names child wanted × ChildrenFit d list names children sorts
+ChildrenFit d list names _ _ = ⊥
 
 abbrev pub with_front : List ℤ → List ℤ × List (List ℤ) → List ℤ × List (List ℤ)
 with_front front gathered = (front ++ gathered.0, gathered.1)

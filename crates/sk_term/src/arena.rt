@@ -3,8 +3,8 @@
 ghost use Rattle.std.specs.Prelude.{◌≡◌, ◌<◌, ◌≤◌, length, map, slice_get, Some, IfOk, All};
 ghost use Rattle.sk_def.specs.declared.def.Def.{Def};
 ghost use Rattle.sk_term.specs.declared.node.TermNode.{TermNode};
-ghost use Rattle.sk_term.specs.Program.{IsProgramOf, AreOfSortedTerm, IsSortOfPoint, number_leaves, con_of_point, children_of_point};
-ghost use Rattle.sk_term.specs.Terms.{sort_of_node};
+ghost use Rattle.sk_term.specs.Program.{IsProgramOf, AreOfSortedTerm, IsSortOfPoint, ChildrenFit, number_leaves, con_of_point, children_of_point};
+ghost use Rattle.sk_term.specs.Terms.{sort_of_node, arguments_of};
 
 use crate::node::{Child, TermNode};
 use sk_base::{NoMemory, Seq};
@@ -77,10 +77,12 @@ impl Arena {
         self.nodes.len()
     }
 
-    /// The constructor of a point below the count.
+    /// The constructor of a point below the count. The point has as many entries as it has arguments, of their sorts.
     pub fn con_at(&self, point: u16) -> ConId
         requires { point < length self.now.nodes }
-        ensures { con_of_point self.now.nodes point ≡ Some result }
+        ensures con { con_of_point self.now.nodes point ≡ Some result }
+        ensures count { (d : Def) → IsProgramOf d self.now → length (children_of_point self.now.nodes point) ≡ length (arguments_of d result) }
+        ensures sorts { (d : Def) → IsProgramOf d self.now → ChildrenFit d self.now.nodes self.now.names (children_of_point self.now.nodes point) (arguments_of d result) }
     {
         self.nodes.get(usize::from(point)).con
     }
@@ -124,5 +126,18 @@ impl Arena {
         ensures kept { (d : Def) → IsProgramOf d self.old → IsProgramOf d self.new }
     {
         self.names = names;
+    }
+}
+
+#[cfg(test)]
+impl Arena {
+    /// The entry of a point at a place, if there is one.
+    pub(crate) fn entry(&self, point: u16, place: usize) -> Option<Child> {
+        let node = self.nodes.as_slice().get(usize::from(point))?;
+        if place < node.children.len() {
+            Some(self.child(point, place))
+        } else {
+            None
+        }
     }
 }

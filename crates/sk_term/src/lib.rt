@@ -13,3 +13,6 @@ pub use arena::Arena;
 pub use fault::{TermError, TermFault};
 pub use node::{Child, TermNode};
 pub use read::read_term;
+
+#[cfg(test)]
+mod tests;
