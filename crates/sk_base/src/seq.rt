@@ -77,6 +77,16 @@ impl<E: Drop> Seq<E> {
         Ok(())
     }
 
+    /// Appends all entries of another list. Where memory is refused they are dropped, and the list is as before.
+    pub fn append(&mut self, others: Seq<E>) -> Result<(), NoMemory>
+        ensures ok { OnOk result (self.new ≡ self.old ++ others) }
+        ensures err { OnErr result (self.new ≡ self.old) }
+    {
+        let mut others = others.entries;
+        self.entries.append(&mut others)?;
+        Ok(())
+    }
+
     /// Puts an entry in another one's place, where there is one.
     pub fn put(&mut self, at: usize, entry: E)
         ensures { self.new ≡ slice_set self.old at entry }

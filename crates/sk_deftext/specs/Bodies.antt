@@ -18,6 +18,8 @@ use Rattle.sk_deftext.specs.Met.{Met, met}
 use Rattle.sk_deftext.specs.Words.{keyword_of}
 use Rattle.sk_deftext.specs.declared.draft.Draft.{Draft}
 use Rattle.sk_deftext.specs.declared.draft.OpenBone.{OpenBone}
+use Rattle.sk_deftext.specs.declared.draft.BoneHead.{BoneHead}
+use Rattle.sk_deftext.specs.declared.draft.BoneHead.TheVariants as head
 use Rattle.sk_deftext.specs.declared.expected.Body.{Body}
 use Rattle.sk_deftext.specs.declared.expected.Body.TheVariants.{Rule, Branch}
 use Rattle.sk_deftext.specs.declared.expected.Listed.{Listed}
@@ -47,7 +49,7 @@ con_named cons word = option_map (λ place. record { 0 = place }) (place_of_con 
 
 abbrev pub with_hook : Draft → Option HookId → Met
 with_hook draft None = Err Unknown
-with_hook draft (Some hook) = met (record draft { hook = hook }) []
+with_hook draft (Some hook) = met (record draft { hook = Some hook }) []
 
 unfoldable pub rule_hook : Draft → Option (List ℕ) → Met
 rule_hook draft None = Err Unexpected
@@ -55,7 +57,7 @@ rule_hook draft (Some word) = with_hook draft (hook_named draft.def.hooks word)
 
 abbrev pub with_con : Draft → Option ConId → Met
 with_con draft None = Err Unknown
-with_con draft (Some con) = met (record draft { con = con }) []
+with_con draft (Some con) = met (record draft { con = Some con }) []
 
 unfoldable pub rule_con : Draft → Option (List ℕ) → Met
 rule_con draft None = Err Unexpected
@@ -82,21 +84,22 @@ opened_by None None None = opening.Unknown
 unfoldable pub opening_of : List Hook → List ℕ → Opening
 opening_of hooks word = opened_by (filter_named word) (keyword_of word) (hook_named hooks word)
 
--- a bone begins at a place: it goes last, and its parts come later
-abbrev pub with_bone : Draft → ℕ → Bone → List Expected → Met
-with_bone draft at bone expected = met (record draft { bones = draft.bones ++ bone ∷ []; marks = draft.marks ++ at ∷ []; target = Own }) expected
+-- a filter or hook bone begins at a place; its parts come later
+abbrev pub with_head : Draft → ℕ → BoneHead → List Expected → Met
+with_head draft at head expected = met (record draft { opened = Some head; marks = draft.marks ++ at ∷ []; target = Own }) expected
 
+-- a branch bone begins: its branches are lists of their own
 abbrev pub with_branches : Draft → ℕ → List Expected → Met
 with_branches draft at expected =
     if nat_lt (length draft.unclosed) 8
-    then with_bone (record draft { unclosed = record { place = length draft.bones; start = 0; counts = [] } ∷ draft.unclosed }) at (Either [] []) expected
+    then met (record draft { unclosed = record { before = draft.bones; counts = []; inside = [] } ∷ draft.unclosed; bones = []; marks = draft.marks ++ at ∷ [] }) expected
     else Err (TooMany which.Nesting)
 
 abbrev pub begun : Draft → Body → ℕ → Opening → Met
 begun draft body at opening.Keyword = Err Unexpected
 begun draft body at opening.Unknown = Err Unknown
-begun draft body at (opening.Filter filter) = with_bone draft at (Apply filter [] []) (Open ∷ First BoneArgs ∷ Arrow ∷ Open ∷ First BoneOuts ∷ Bones body ∷ [])
-begun draft body at (opening.Hook hook) = with_bone draft at (Call hook [] Own []) (Open ∷ First BoneArgs ∷ BoneTarget ∷ Arrow ∷ Open ∷ First BoneOuts ∷ Bones body ∷ [])
+begun draft body at (opening.Filter filter) = with_head draft at (head.Filter filter) (Open ∷ First BoneArgs ∷ Arrow ∷ Open ∷ First BoneOuts ∷ Bones body ∷ [])
+begun draft body at (opening.Hook hook) = with_head draft at (head.Hook hook) (Open ∷ First BoneArgs ∷ BoneTarget ∷ Arrow ∷ Open ∷ First BoneOuts ∷ Bones body ∷ [])
 begun draft body at opening.Branches = with_branches draft at (BranchOpen ∷ Bones Branch ∷ OrFirst ∷ BranchOpen ∷ Bones Branch ∷ OrMore ∷ Bones body ∷ [])
 
 abbrev pub may_begin : Opening → Bool → Bool
@@ -106,7 +109,7 @@ may_begin other room = room
 unfoldable pub bone : Draft → Body → ℕ → Option (List ℕ) → Met
 bone draft body at None = Err Unexpected
 bone draft body at (Some word) =
-    if may_begin (opening_of draft.def.hooks word) (nat_lt (length draft.bones) 64) then begun draft body at (opening_of draft.def.hooks word) else Err (TooMany which.Bones)
+    if may_begin (opening_of draft.def.hooks word) (nat_lt (length draft.marks) 64) then begun draft body at (opening_of draft.def.hooks word) else Err (TooMany which.Bones)
 
 -- `self`, or the variable of the term that a hook bone evaluates
 abbrev pub with_target : Draft → Option (ℕ × List (List ℕ)) → Met
@@ -122,15 +125,17 @@ unfoldable pub target : Draft → Option (List ℕ) → Met
 target draft None = Err Unexpected
 target draft (Some word) = target_word draft word (keyword_of word)
 
--- a branch begins in the innermost open branch bone, and ends
+-- a branch begins in the innermost branch bone, and ends
 abbrev pub branch_begun : Draft → List OpenBone → Met
 branch_begun draft [] = Err Unexpected
-branch_begun draft (one ∷ outer) =
-    if nat_lt (length one.counts) 8 then met (record draft { unclosed = record one { start = length draft.bones } ∷ outer }) [] else Err (TooMany which.Branches)
+branch_begun draft (one ∷ outer) = if nat_lt (length one.counts) 8 then met draft [] else Err (TooMany which.Branches)
 
 abbrev pub branch_ended : Draft → List OpenBone → Met
 branch_ended draft [] = Err Unexpected
-branch_ended draft (one ∷ outer) = met (record draft { unclosed = record one { counts = one.counts ++ (length draft.bones - one.start) ∷ [] } ∷ outer }) []
+branch_ended draft (one ∷ outer) = met (record draft {
+  unclosed = record { before = one.before; counts = one.counts ++ length draft.bones ∷ []; inside = one.inside ++ draft.bones } ∷ outer;
+  bones = [];
+}) []
 
 -- the `}` after bones
 unfoldable pub left_brace : Draft → Body → Met
@@ -157,29 +162,36 @@ listed_inputs draft = record draft { rule_inputs = draft.listed; listed = [] }
 abbrev pub with_args : Draft → Draft
 with_args draft = record draft { bone_args = draft.listed; listed = [] }
 
--- a bone with its parts
-abbrev pub with_parts : List Var → Target → List Var → Bone → Bone
-with_parts args target outs (Apply filter none empty) = Apply filter args outs
-with_parts args target outs (Call hook none own empty) = Call hook args target outs
-with_parts args target outs (Either counts exports) = Either counts exports
+-- a filter or hook bone of its parts
+abbrev pub bone_of : BoneHead → List Var → Target → List Var → Bone
+bone_of (head.Filter filter) args target outs = Apply filter args outs
+bone_of (head.Hook hook) args target outs = Call hook args target outs
 
-abbrev pub finished_bone : Draft → Draft
-finished_bone draft = record draft { bones = with_last (with_parts draft.bone_args draft.target draft.listed) draft.bones; bone_args = []; listed = [] }
+-- a bone that ends goes last in its list
+abbrev pub finished_bone : Draft → Option BoneHead → Met
+finished_bone draft None = Err Unexpected
+finished_bone draft (Some first) = met (record draft {
+  bones = draft.bones ++ bone_of first draft.bone_args draft.target draft.listed ∷ [];
+  opened = None;
+  bone_args = [];
+  listed = [];
+}) []
 
-abbrev pub branches_ended : Draft → List OpenBone → Met
-branches_ended draft [] = Err Unexpected
-branches_ended draft (one ∷ outer) =
-    met (record draft { bones = slice_set draft.bones one.place (Either one.counts draft.listed); unclosed = outer; listed = [] }) []
+-- a branch bone has at least two branches, and they follow it
+abbrev pub finished_branches : Draft → List OpenBone → Met
+finished_branches draft [] = Err Unexpected
+finished_branches draft (one ∷ outer) =
+    if nat_lt (length one.counts) 2 then Err Unexpected
+    else met (record draft { bones = one.before ++ Either one.counts draft.listed ∷ one.inside; unclosed = outer; listed = [] }) []
 
-abbrev pub finished_branches : Draft → Met
-finished_branches draft = branches_ended draft draft.unclosed
-
-abbrev pub finished_rule : Draft → Draft
-finished_rule draft = record draft {
+abbrev pub finished_rule : Draft → Option HookId → Option ConId → Met
+finished_rule draft None con = Err Unexpected
+finished_rule draft (Some hook) None = Err Unexpected
+finished_rule draft (Some hook) (Some con) = met (record draft {
   def = record draft.def {
     rules = draft.def.rules ++ record {
-      hook = draft.hook;
-      con = draft.con;
+      hook = hook;
+      con = con;
       vars = draft.vars;
       terms = draft.terms;
       inputs = draft.rule_inputs;
@@ -187,11 +199,15 @@ finished_rule draft = record draft {
       outputs = draft.listed;
     } ∷ [];
   };
-  rules = draft.rules ++ draft.marks ∷ [];
-  marks = [];
+  rules = draft.rules ++ (draft.begun ∷ (draft.marks ++ draft.closing ∷ [])) ∷ [];
   vars = [];
   terms = [];
   rule_inputs = [];
+  marks = [];
   bones = [];
+  unclosed = [];
+  opened = None;
+  bone_args = [];
+  target = Own;
   listed = [];
-}
+}) []

@@ -46,8 +46,8 @@ unfoldable pub item : Draft → ℕ → Option Keyword → Met
 item draft at None = Err Unexpected
 item draft at (Some keyword.Sort) = met draft (SortName ∷ Item ∷ [])
 item draft at (Some keyword.Con) = met draft (ConName ∷ Colon ∷ SortUsed ∷ Open ∷ First Arguments ∷ Item ∷ [])
-item draft at (Some keyword.Hook) = met (record draft { hooks = draft.hooks ++ at ∷ [] }) (HookName ∷ Open ∷ First Inputs ∷ SortUsed ∷ Arrow ∷ Open ∷ First Outputs ∷ Item ∷ [])
-item draft at (Some keyword.Rule) = met (record draft { marks = at ∷ [] }) rule_form
+item draft at (Some keyword.Hook) = met (record draft { begun = at }) (HookName ∷ Open ∷ First Inputs ∷ SortUsed ∷ Arrow ∷ Open ∷ First Outputs ∷ Item ∷ [])
+item draft at (Some keyword.Rule) = met (record draft { begun = at }) rule_form
 item draft at (Some other) = Err Unexpected
 
 -- a new name, where so many stand already, and whether it is taken
@@ -69,17 +69,13 @@ unfoldable pub con_name : Draft → Option (List ℕ) → Met
 con_name draft None = Err Unexpected
 con_name draft (Some word) =
     declared (length draft.def.cons) 128 (TooMany which.Constructors) (is_some (place_of_con draft.def.cons word))
-    (met (record draft { def = record draft.def { cons = draft.def.cons ++ record { name = word; sort = record { 0 = 0 }; args = [] } ∷ [] }; args = [] }) [])
+    (met (record draft { con_name = Some word }) [])
 
 unfoldable pub hook_name : Draft → Option (List ℕ) → Met
 hook_name draft None = Err Unexpected
 hook_name draft (Some word) =
     declared (length draft.def.hooks) 8 (TooMany which.Hooks) (is_some (filter_named word) || is_some (place_of_hook draft.def.hooks word))
-    (met (record draft {
-      def = record draft.def { hooks = draft.def.hooks ++ record { name = word; inputs = []; sort = record { 0 = 0 }; outputs = [] } ∷ [] };
-      inputs = [];
-      outputs = [];
-    }) [])
+    (met (record draft { hook_name = Some word }) [])
 
 -- the sort of a name
 abbrev pub sort_named : List (List ℕ) → List ℕ → Option SortId
@@ -87,7 +83,7 @@ sort_named sorts word = option_map (λ place. record { 0 = place }) (place_of_na
 
 abbrev pub with_sort : Draft → Option SortId → Met
 with_sort draft None = Err Unknown
-with_sort draft (Some sort) = met (record draft { sort = sort }) []
+with_sort draft (Some sort) = met (record draft { sort = Some sort }) []
 
 unfoldable pub sort_used : Draft → Option (List ℕ) → Met
 sort_used draft None = Err Unexpected
@@ -123,34 +119,37 @@ entry draft Inputs symbol = input draft (word_of symbol)
 entry draft Outputs symbol = output draft (word_of symbol)
 entry draft other symbol = variable draft other (plain_word (word_of symbol))
 
--- the last constructor gets its sort and its arguments, and the last hook its sort and its flows
-abbrev pub with_arguments : SortId → List ArgSort → List Con → List Con
-with_arguments sort args cons = with_last (λ con. record { name = con.name; sort = sort; args = args }) cons
+-- the end of a list, which may be the end of its item. Without a name and a sort no item can end
+abbrev pub finished_con : Draft → Option (List ℕ) → Option SortId → Met
+finished_con draft None sort = Err Unexpected
+finished_con draft (Some name) None = Err Unexpected
+finished_con draft (Some name) (Some sort) = met (record draft {
+  def = record draft.def { cons = draft.def.cons ++ record { name = name; sort = sort; args = draft.args } ∷ [] };
+  con_name = None;
+  args = [];
+}) []
 
-abbrev pub with_flows : List FlowSort → SortId → List FlowSort → List Hook → List Hook
-with_flows inputs sort outputs hooks = with_last (λ hook. record { name = hook.name; inputs = inputs; sort = sort; outputs = outputs }) hooks
-
--- the end of a list, which may be the end of its item
-abbrev pub finished_con : Draft → Draft
-finished_con draft = record draft { def = record draft.def { cons = with_arguments draft.sort draft.args draft.def.cons }; args = [] }
-
-abbrev pub finished_hook : Draft → Draft
-finished_hook draft = record draft {
-  def = record draft.def { hooks = with_flows draft.inputs draft.sort draft.outputs draft.def.hooks };
+abbrev pub finished_hook : Draft → Option (List ℕ) → Option SortId → Met
+finished_hook draft None sort = Err Unexpected
+finished_hook draft (Some name) None = Err Unexpected
+finished_hook draft (Some name) (Some sort) = met (record draft {
+  def = record draft.def { hooks = draft.def.hooks ++ record { name = name; inputs = draft.inputs; sort = sort; outputs = draft.outputs } ∷ [] };
+  hooks = draft.hooks ++ draft.begun ∷ [];
+  hook_name = None;
   inputs = [];
   outputs = [];
-}
+}) []
 
 unfoldable pub closed : Draft → Listed → Met
-closed draft Arguments = met (finished_con draft) []
+closed draft Arguments = finished_con draft draft.con_name draft.sort
 closed draft Inputs = met draft []
-closed draft Outputs = met (finished_hook draft) []
+closed draft Outputs = finished_hook draft draft.hook_name draft.sort
 closed draft Terms = met (listed_terms draft) []
 closed draft RuleInputs = met (listed_inputs draft) []
 closed draft BoneArgs = met (with_args draft) []
-closed draft BoneOuts = met (finished_bone draft) []
-closed draft Exports = finished_branches draft
-closed draft RuleOutputs = met (finished_rule draft) []
+closed draft BoneOuts = finished_bone draft draft.opened
+closed draft Exports = finished_branches draft draft.unclosed
+closed draft RuleOutputs = finished_rule draft draft.hook draft.con
 
 unfoldable pub first : Draft → Listed → Symbol → Met
 first draft listed symbol = if is_close symbol then closed draft listed else entry draft listed symbol
@@ -167,7 +166,7 @@ abbrev pub branch_open : Draft → Symbol → Met
 branch_open draft symbol = if is_left_brace symbol then branch_begun draft draft.unclosed else Err Unexpected
 
 abbrev pub closing : Draft → ℕ → Symbol → Met
-closing draft at symbol = if is_arrow symbol then met (record draft { marks = draft.marks ++ at ∷ [] }) [] else Err Unexpected
+closing draft at symbol = if is_arrow symbol then met (record draft { closing = at }) [] else Err Unexpected
 
 -- what comes of the symbol at a place, where this is expected
 unfoldable pub step : Draft → Expected → ℕ → Symbol → Met
@@ -216,23 +215,28 @@ definition_rules = record {
 abbrev pub nothing : Draft
 nothing = record {
   def = record { sorts = []; cons = []; hooks = []; rules = [] };
-  sort = record { 0 = 0 };
+  hooks = [];
+  rules = [];
+  begun = 0;
+  con_name = None;
+  hook_name = None;
+  sort = None;
   args = [];
   inputs = [];
   outputs = [];
-  hooks = [];
-  marks = [];
-  rules = [];
-  hook = record { 0 = 0 };
-  con = record { 0 = 0 };
+  hook = None;
+  con = None;
   vars = [];
   terms = [];
   rule_inputs = [];
+  marks = [];
+  closing = 0;
   bones = [];
   unclosed = [];
-  listed = [];
+  opened = None;
   bone_args = [];
   target = Own;
+  listed = [];
 }
 
 -- a definition's symbols: what was read, or the code and the place of the first symbol that fits no case

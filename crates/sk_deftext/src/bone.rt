@@ -1,8 +1,7 @@
 //! Rules: their headers, and bones with branches.
 
-ghost use Rattle.std.specs.Prelude.{◌≡◌, ◌<◌, ◌≤◌, ℕ, List, [], ◌∷◌, length, nat_lt, OnOk};
+ghost use Rattle.std.specs.Prelude.{◌≡◌, ◌<◌, ◌≤◌, ℕ, List, [], ◌∷◌, ◌++◌, length, nat_lt, OnOk, IfOk};
 ghost use Rattle.sk_base.specs.Answer.{Gives};
-ghost use Rattle.sk_base.specs.Last.{with_last};
 ghost use Rattle.sk_lex.specs.Symbols.{symbol, IsShort, word_of, is_left_brace, is_right_brace};
 ghost use Rattle.sk_deftext.specs.Bodies as spec;
 ghost use Rattle.sk_deftext.specs.Met.{turn_of, met};
@@ -13,12 +12,12 @@ ghost use Rattle.sk_deftext.specs.declared.expected.Expected.TheVariants as expe
 ghost use Rattle.sk_deftext.specs.declared.expected.Listed.TheVariants as listed;
 ghost use Rattle.sk_deftext.specs.declared.expected.Body.TheVariants as body_of;
 
-use crate::draft::{Draft, OpenBone};
+use crate::draft::{BoneHead, Draft, OpenBone};
 use crate::expected::{Body, Expected, Listed};
 use crate::fault::{DefError, Refusal, Which};
 use crate::meet::Met;
 use crate::word::{Keyword, keyword_in, keyword_of, plain_word};
-use sk_base::{Ident, NamesFault, NoMemory, Seq};
+use sk_base::{Ident, NamesFault, NoMemory, Seq, Stack};
 use sk_def::{
     Bone, BoneList, Con, ConId, Filter, Hook, HookId, Rule, Target, Var, VarList, filter_named,
 };
@@ -78,7 +77,7 @@ pub(crate) fn rule_hook(draft: &mut Draft, lexeme: Lexeme) -> Met
     let Some(hook) = hook_named(draft.def.hooks.as_slice(), word) else {
         return Err(Refusal::Bad(DefError::Unknown));
     };
-    draft.hook = hook;
+    draft.hook = Some(hook);
     Ok(&[])
 }
 
@@ -95,7 +94,7 @@ pub(crate) fn rule_con(draft: &mut Draft, lexeme: Lexeme) -> Met
     let Some(con) = con_named(draft.def.cons.as_slice(), word) else {
         return Err(Refusal::Bad(DefError::Unknown));
     };
-    draft.con = con;
+    draft.con = Some(con);
     Ok(&[])
 }
 
@@ -235,39 +234,36 @@ fn branches_form(body: Body) -> &'static [Expected]
     }
 }
 
-/// A bone begins; its parts come later.
-fn begin(draft: &mut Draft, bone: Bone, form: &'static [Expected], at: usize) -> Met
+/// A filter or hook bone begins; its parts come later.
+fn begin(draft: &mut Draft, head: BoneHead, form: &'static [Expected], at: usize) -> Met
     requires within { IsWithin draft.old }
-    requires room { length draft.old.bones < 64 }
-    ensures gives { Gives (λ next. turn_of draft.new next.now) error_of result (spec.with_bone draft.old at bone form.now) }
+    requires room { length draft.old.marks < 64 }
+    ensures gives { Gives (λ next. turn_of draft.new next.now) error_of result (spec.with_head draft.old at head form.now) }
     ensures within { OnOk result (IsWithin draft.new) }
 {
-    draft.bones.push(bone)?;
     draft.marks.push(at)?;
+    draft.opened = Some(head);
     draft.target = Target::Own;
     Ok(form)
 }
 
-/// A branch bone begins.
+/// A branch bone begins. Its branches are lists of their own.
 fn begin_branches(alloc: Global, draft: &mut Draft, form: &'static [Expected], at: usize) -> Met
     requires within { IsWithin draft.old }
-    requires room { length draft.old.bones < 64 }
+    requires room { length draft.old.marks < 64 }
     ensures gives { Gives (λ next. turn_of draft.new next.now) error_of result (spec.with_branches draft.old at form.now) }
     ensures within { OnOk result (IsWithin draft.new) }
 {
     if draft.unclosed.len() >= 8 {
         return Err(Refusal::Bad(DefError::TooMany(Which::Nesting)));
     }
+    draft.marks.push(at)?;
     draft.unclosed.push(OpenBone {
-        place: draft.bones.len(),
-        start: 0,
+        before: draft.bones.take(alloc),
         counts: Seq::new(alloc),
+        inside: Seq::new(alloc),
     })?;
-    let bone = Bone::Either {
-        branches: Seq::new(alloc),
-        exports: Seq::new(alloc),
-    };
-    begin(draft, bone, form, at)
+    Ok(form)
 }
 
 /// The first word of a bone.
@@ -284,29 +280,14 @@ pub(crate) fn bone(alloc: Global, draft: &mut Draft, body: Body, lexeme: Lexeme,
     if let Opening::Keyword = opening {
         return Err(Refusal::Bad(DefError::Unexpected));
     }
-    if draft.bones.len() >= 64 {
+    if draft.marks.len() >= 64 {
         return Err(Refusal::Bad(DefError::TooMany(Which::Bones)));
     }
     match opening {
         Opening::Keyword => Err(Refusal::Bad(DefError::Unexpected)),
         Opening::Unknown => Err(Refusal::Bad(DefError::Unknown)),
-        Opening::Filter(filter) => {
-            let bone = Bone::Apply {
-                filter,
-                args: Seq::new(alloc),
-                outs: Seq::new(alloc),
-            };
-            begin(draft, bone, filter_form(body), at)
-        }
-        Opening::Hook(hook) => {
-            let bone = Bone::Call {
-                hook,
-                args: Seq::new(alloc),
-                target: Target::Own,
-                outs: Seq::new(alloc),
-            };
-            begin(draft, bone, hook_form(body), at)
-        }
+        Opening::Filter(filter) => begin(draft, BoneHead::Filter(filter), filter_form(body), at),
+        Opening::Hook(hook) => begin(draft, BoneHead::Hook(hook), hook_form(body), at),
         Opening::Branches => begin_branches(alloc, draft, branches_form(body), at),
     }
 }
@@ -348,16 +329,12 @@ pub(crate) fn begin_branch(draft: &mut Draft) -> Met
     if one.counts.len() >= 8 {
         return Err(Refusal::Bad(DefError::TooMany(Which::Branches)));
     }
-    draft.unclosed.push(OpenBone {
-        place: one.place,
-        start: draft.bones.len(),
-        counts: one.counts,
-    })?;
+    draft.unclosed.push(one)?;
     Ok(&[])
 }
 
-/// The `}` of a branch.
-fn end_branch(draft: &mut Draft) -> Met
+/// The `}` of a branch, whose bones go to those of the branches before it.
+fn end_branch(alloc: Global, draft: &mut Draft) -> Met
     requires within { IsWithin draft.old }
     ensures gives { Gives (λ next. turn_of draft.new next.now) error_of result (spec.branch_ended draft.old draft.old.unclosed) }
     ensures within { OnOk result (IsWithin draft.new) }
@@ -366,25 +343,27 @@ fn end_branch(draft: &mut Draft) -> Met
         return Err(Refusal::Bad(DefError::Unexpected));
     };
     let mut counts = one.counts;
-    counts.push(draft.bones.len().saturating_sub(one.start) as u8)?;
+    let mut inside = one.inside;
+    counts.push(draft.bones.len() as u8)?;
+    inside.append(draft.bones.take(alloc))?;
     draft.unclosed.push(OpenBone {
-        place: one.place,
-        start: one.start,
+        before: one.before,
         counts,
+        inside,
     })?;
     Ok(&[])
 }
 
 /// The `}` after bones.
 #[tactic(auto, unfolding(crate::specs::Bodies::left_brace))]
-pub(crate) fn end_bones(draft: &mut Draft, body: Body) -> Met
+pub(crate) fn end_bones(alloc: Global, draft: &mut Draft, body: Body) -> Met
     requires within { IsWithin draft.old }
     ensures gives { Gives (λ next. turn_of draft.new next.now) error_of result (spec.left_brace draft.old body) }
     ensures within { OnOk result (IsWithin draft.new) }
 {
     match body {
         Body::Rule => Ok(&[]),
-        Body::Branch => end_branch(draft),
+        Body::Branch => end_branch(alloc, draft),
     }
 }
 
@@ -415,79 +394,89 @@ pub(crate) fn or_more(lexeme: Lexeme) -> Met
     }
 }
 
-/// A bone with its parts.
-fn with_parts(args: VarList, target: Target, outs: VarList, bone: Bone) -> Bone
-    ensures { result ≡ spec.with_parts args target outs bone }
+/// The end of a filter or hook bone.
+pub(crate) fn finish_bone(alloc: Global, draft: &mut Draft) -> Met
+    requires within { IsWithin draft.old }
+    ensures gives { Gives (λ next. turn_of draft.new next.now) error_of result (spec.finished_bone draft.old draft.old.opened) }
+    ensures within { OnOk result (IsWithin draft.new) }
 {
-    match bone {
-        Bone::Apply { filter, .. } => Bone::Apply { filter, args, outs },
-        Bone::Call { hook, .. } => Bone::Call {
+    let Some(head) = draft.opened.take() else {
+        return Err(Refusal::Bad(DefError::Unexpected));
+    };
+    let args = draft.bone_args.take(alloc);
+    let outs = draft.listed.take(alloc);
+    draft.bones.push(bone_of(head, args, draft.target, outs))?;
+    Ok(&[])
+}
+
+/// A filter or hook bone of its parts.
+fn bone_of(head: BoneHead, args: VarList, target: Target, outs: VarList) -> Bone
+    ensures { result ≡ spec.bone_of head args target outs }
+{
+    match head {
+        BoneHead::Filter(filter) => Bone::Apply { filter, args, outs },
+        BoneHead::Hook(hook) => Bone::Call {
             hook,
             args,
             target,
             outs,
         },
-        Bone::Either { branches, exports } => Bone::Either { branches, exports },
     }
 }
 
-/// The last bone gets its parts.
-fn finish_last(
-    bones: &mut BoneList,
-    args: VarList,
-    target: Target,
-    outs: VarList,
-) -> Result<(), NoMemory>
-    ensures count { OnOk result (length bones.new ≡ length bones.old) }
-    ensures finished { OnOk result (bones.new ≡ with_last (spec.with_parts args target outs) bones.old) }
-{
-    if let Some(bone) = bones.pop() {
-        bones.push(with_parts(args, target, outs, bone))?;
-    }
-    Ok(())
-}
-
-/// The end of a filter or hook bone.
-pub(crate) fn finish_bone(alloc: Global, draft: &mut Draft) -> Met
-    requires within { IsWithin draft.old }
-    ensures gives { Gives (λ next. turn_of draft.new next.now) error_of result (met (spec.finished_bone draft.old) []) }
-    ensures within { OnOk result (IsWithin draft.new) }
-{
-    let args = draft.bone_args.take(alloc);
-    let outs = draft.listed.take(alloc);
-    finish_last(&mut draft.bones, args, draft.target, outs)?;
-    Ok(&[])
-}
-
-/// The end of a branch bone.
+/// The end of a branch bone, which goes before its branches.
 pub(crate) fn finish_branches(alloc: Global, draft: &mut Draft) -> Met
     requires within { IsWithin draft.old }
-    ensures gives { Gives (λ next. turn_of draft.new next.now) error_of result (spec.finished_branches draft.old) }
+    ensures gives { Gives (λ next. turn_of draft.new next.now) error_of result (spec.finished_branches draft.old draft.old.unclosed) }
     ensures within { OnOk result (IsWithin draft.new) }
 {
     let Some(one) = draft.unclosed.pop() else {
         return Err(Refusal::Bad(DefError::Unexpected));
     };
-    let exports = draft.listed.take(alloc);
-    draft.bones.put(
-        one.place,
-        Bone::Either {
-            branches: one.counts,
-            exports,
-        },
-    );
+    if one.counts.len() < 2 {
+        return Err(Refusal::Bad(DefError::Unexpected));
+    }
+    let mut bones = one.before;
+    bones.push(Bone::Either {
+        branches: one.counts,
+        exports: draft.listed.take(alloc),
+    })?;
+    bones.append(one.inside)?;
+    draft.bones = bones;
     Ok(&[])
+}
+
+/// The places of a rule: its word `rule`, its bones and its last `->`.
+fn rule_marks(
+    alloc: Global,
+    begun: usize,
+    marks: Seq<usize>,
+    closing: usize,
+) -> Result<Seq<usize>, NoMemory>
+    ensures { IfOk result (λ whole. whole ≡ begun ∷ (marks ++ closing ∷ [])) }
+{
+    let mut whole = Seq::new(alloc);
+    whole.push(begun)?;
+    whole.append(marks)?;
+    whole.push(closing)?;
+    Ok(whole)
 }
 
 /// The end of a rule.
 pub(crate) fn finish_rule(alloc: Global, draft: &mut Draft) -> Met
     requires within { IsWithin draft.old }
-    ensures gives { Gives (λ next. turn_of draft.new next.now) error_of result (met (spec.finished_rule draft.old) []) }
+    ensures gives { Gives (λ next. turn_of draft.new next.now) error_of result (spec.finished_rule draft.old draft.old.hook draft.old.con) }
     ensures within { OnOk result (IsWithin draft.new) }
 {
+    let Some(hook) = draft.hook else {
+        return Err(Refusal::Bad(DefError::Unexpected));
+    };
+    let Some(con) = draft.con else {
+        return Err(Refusal::Bad(DefError::Unexpected));
+    };
     let rule = Rule {
-        hook: draft.hook,
-        con: draft.con,
+        hook,
+        con,
         vars: draft.vars.take()?,
         terms: draft.terms.take(alloc),
         inputs: draft.rule_inputs.take(alloc),
@@ -495,6 +484,11 @@ pub(crate) fn finish_rule(alloc: Global, draft: &mut Draft) -> Met
         outputs: draft.listed.take(alloc),
     };
     draft.def.rules.push(rule)?;
-    draft.rules.push(draft.marks.take(alloc))?;
+    let marks = rule_marks(alloc, draft.begun, draft.marks.take(alloc), draft.closing)?;
+    draft.rules.push(marks)?;
+    draft.unclosed = Stack::new(alloc);
+    draft.opened = None;
+    draft.bone_args = Seq::new(alloc);
+    draft.target = Target::Own;
     Ok(&[])
 }

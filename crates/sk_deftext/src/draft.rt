@@ -3,38 +3,48 @@
 ghost use Rattle.std.specs.Prelude.{◌≡◌};
 ghost use Rattle.sk_deftext.specs.Reading.{nothing};
 
-use sk_base::{Names, Seq, Stack};
+use sk_base::{Ident, Names, Seq, Stack};
 use sk_def::{
-    ArgSorts, BoneList, ConId, CountList, Def, FlowSorts, HookId, SortId, Target, VarList,
+    ArgSorts, BoneList, ConId, CountList, Def, Filter, FlowSorts, HookId, SortId, Target, VarList,
 };
 use std::alloc::Global;
 
-/// What was read so far. Of the definition's last item there is at first just the name, and its parts stand beside.
+/// What was read so far: the items that were read to their ends, and beside them the parts of the one that is being read.
 #[derive(Drop)]
 pub(crate) struct Draft {
     pub def: Def,
-    pub sort: SortId,
+    /// The word `hook` of each hook.
+    pub hooks: Seq<usize>,
+    /// Of each rule: its word `rule`, the first token of each bone, and its last `->`.
+    pub rules: Seq<Seq<usize>>,
+    /// The first word of the item that is being read.
+    pub begun: usize,
+    /// The name of the constructor or the hook that is being read, and the sort that it names.
+    pub con_name: Option<Ident>,
+    pub hook_name: Option<Ident>,
+    pub sort: Option<SortId>,
     pub args: ArgSorts,
     pub inputs: FlowSorts,
     pub outputs: FlowSorts,
-    /// The word `hook` of each hook.
-    pub hooks: Seq<usize>,
-    /// Of the rule that is being read: its word `rule`, the first token of each bone, and its last `->`.
-    pub marks: Seq<usize>,
-    /// The same of each rule.
-    pub rules: Seq<Seq<usize>>,
-    pub hook: HookId,
-    pub con: ConId,
+    /// The hook and the constructor of the rule that is being read.
+    pub hook: Option<HookId>,
+    pub con: Option<ConId>,
     pub vars: Names,
     pub terms: VarList,
     pub rule_inputs: VarList,
+    /// The first token of each bone, and the `->` after the last brace.
+    pub marks: Seq<usize>,
+    pub closing: usize,
+    /// The bones of the innermost list that is being read.
     pub bones: BoneList,
     /// The branch bones whose branches are being read, the innermost first.
     pub unclosed: Stack<OpenBone>,
-    /// The list of variables that is being read.
-    pub listed: VarList,
+    /// The filter or hook bone that is being read.
+    pub opened: Option<BoneHead>,
     pub bone_args: VarList,
     pub target: Target,
+    /// The list of variables that is being read.
+    pub listed: VarList,
 }
 
 impl Draft {
@@ -49,23 +59,28 @@ impl Draft {
                 hooks: Seq::new(alloc),
                 rules: Seq::new(alloc),
             },
-            sort: SortId(0),
+            hooks: Seq::new(alloc),
+            rules: Seq::new(alloc),
+            begun: 0,
+            con_name: None,
+            hook_name: None,
+            sort: None,
             args: Seq::new(alloc),
             inputs: Seq::new(alloc),
             outputs: Seq::new(alloc),
-            hooks: Seq::new(alloc),
-            marks: Seq::new(alloc),
-            rules: Seq::new(alloc),
-            hook: HookId(0),
-            con: ConId(0),
+            hook: None,
+            con: None,
             vars: Names::new(alloc),
             terms: Seq::new(alloc),
             rule_inputs: Seq::new(alloc),
+            marks: Seq::new(alloc),
+            closing: 0,
             bones: Seq::new(alloc),
             unclosed: Stack::new(alloc),
-            listed: Seq::new(alloc),
+            opened: None,
             bone_args: Seq::new(alloc),
             target: Target::Own,
+            listed: Seq::new(alloc),
         }
     }
 }
@@ -73,10 +88,16 @@ impl Draft {
 /// A branch bone whose branches are being read.
 #[derive(Drop)]
 pub(crate) struct OpenBone {
-    /// Its place among the rule's bones.
-    pub place: usize,
-    /// The place of the first bone of its last branch.
-    pub start: usize,
-    /// How many bones each finished branch has.
+    /// The bones before it in its list.
+    pub before: BoneList,
+    /// How many bones each finished branch has, and these bones.
     pub counts: CountList,
+    pub inside: BoneList,
+}
+
+/// The first word of a filter or hook bone.
+#[derive(Clone, Copy)]
+pub(crate) enum BoneHead {
+    Filter(Filter),
+    Hook(HookId),
 }

@@ -16,3 +16,6 @@ mod word;
 pub use fault::{DefFault, Which};
 pub use source::{Places, Source};
 pub use text::read_def;
+
+#[cfg(test)]
+mod tests;

@@ -21,8 +21,8 @@ use crate::draft::Draft;
 use crate::expected::{Body, Expected, Listed};
 use crate::fault::{DefError, Refusal, Which};
 use crate::word::{Keyword, flow_sort_of, is_reserved, keyword_in, plain_word};
-use sk_base::{Ident, NoMemory, Seq};
-use sk_def::{ArgSort, ArgSorts, Con, ConList, FlowSorts, Hook, HookList, SortId, filter_named};
+use sk_base::Ident;
+use sk_def::{ArgSort, Con, Hook, SortId, filter_named};
 use sk_lex::Lexeme;
 use std::alloc::Global;
 
@@ -64,7 +64,7 @@ fn version(lexeme: Lexeme) -> Met
 
 /// The first word of an item.
 #[tactic(auto, unfolding(crate::specs::Reading::item))]
-fn item(alloc: Global, draft: &mut Draft, lexeme: Lexeme, at: usize) -> Met
+fn item(draft: &mut Draft, lexeme: Lexeme, at: usize) -> Met
     requires within { IsWithin draft.old }
     ensures gives { Gives (λ next. turn_of draft.new next.now) error_of result (spec.item draft.old at (keyword_in (word_of (symbol lexeme.entry)))) }
     ensures within { OnOk result (IsWithin draft.new) }
@@ -76,12 +76,11 @@ fn item(alloc: Global, draft: &mut Draft, lexeme: Lexeme, at: usize) -> Met
         Keyword::Sort => Ok(&[Expected::SortName, Expected::Item]),
         Keyword::Con => Ok(con_form()),
         Keyword::Hook => {
-            draft.hooks.push(at)?;
+            draft.begun = at;
             Ok(hook_form())
         }
         Keyword::Rule => {
-            draft.marks = Seq::new(alloc);
-            draft.marks.push(at)?;
+            draft.begun = at;
             Ok(rule_form())
         }
         _ => Err(Refusal::Bad(DefError::Unexpected)),
@@ -184,12 +183,7 @@ fn con_name(alloc: Global, draft: &mut Draft, lexeme: Lexeme) -> Met
     if place_of_con(draft.def.cons.as_slice(), word).is_some() {
         return Err(Refusal::Bad(DefError::Duplicate));
     }
-    draft.def.cons.push(Con {
-        name: Ident::of(alloc, word)?,
-        sort: SortId(0),
-        args: Seq::new(alloc),
-    })?;
-    draft.args = Seq::new(alloc);
+    draft.con_name = Some(Ident::of(alloc, word)?);
     Ok(&[])
 }
 
@@ -210,14 +204,7 @@ fn hook_name(alloc: Global, draft: &mut Draft, lexeme: Lexeme) -> Met
     if filter_named(word).is_some() || place_of_hook(draft.def.hooks.as_slice(), word).is_some() {
         return Err(Refusal::Bad(DefError::Duplicate));
     }
-    draft.def.hooks.push(Hook {
-        name: Ident::of(alloc, word)?,
-        inputs: Seq::new(alloc),
-        sort: SortId(0),
-        outputs: Seq::new(alloc),
-    })?;
-    draft.inputs = Seq::new(alloc);
-    draft.outputs = Seq::new(alloc);
+    draft.hook_name = Some(Ident::of(alloc, word)?);
     Ok(&[])
 }
 
@@ -243,7 +230,7 @@ fn sort_used(draft: &mut Draft, lexeme: Lexeme) -> Met
     let Some(sort) = sort_named(draft.def.sorts.as_slice(), word) else {
         return Err(Refusal::Bad(DefError::Unknown));
     };
-    draft.sort = sort;
+    draft.sort = Some(sort);
     Ok(&[])
 }
 
@@ -342,62 +329,44 @@ fn entry(alloc: Global, draft: &mut Draft, list: Listed, lexeme: Lexeme) -> Met
     }
 }
 
-/// The last constructor gets its sort and its arguments.
-fn finish_con(cons: &mut ConList, sort: SortId, args: ArgSorts) -> Result<(), NoMemory>
-    ensures count { OnOk result (length cons.new ≡ length cons.old) }
-    ensures finished { OnOk result (cons.new ≡ spec.with_arguments sort args cons.old) }
-{
-    if let Some(con) = cons.pop() {
-        cons.push(Con {
-            name: con.name,
-            sort,
-            args,
-        })?;
-    }
-    Ok(())
-}
-
-/// The last hook gets its sort and its flows.
-fn finish_hook(
-    hooks: &mut HookList,
-    inputs: FlowSorts,
-    sort: SortId,
-    outputs: FlowSorts,
-) -> Result<(), NoMemory>
-    ensures count { OnOk result (length hooks.new ≡ length hooks.old) }
-    ensures finished { OnOk result (hooks.new ≡ spec.with_flows inputs sort outputs hooks.old) }
-{
-    if let Some(hook) = hooks.pop() {
-        hooks.push(Hook {
-            name: hook.name,
-            inputs,
-            sort,
-            outputs,
-        })?;
-    }
-    Ok(())
-}
-
 /// The end of a constructor's arguments, and of the constructor.
 fn close_arguments(alloc: Global, draft: &mut Draft) -> Met
     requires within { IsWithin draft.old }
-    ensures gives { Gives (λ next. turn_of draft.new next.now) error_of result (met (spec.finished_con draft.old) []) }
+    ensures gives { Gives (λ next. turn_of draft.new next.now) error_of result (spec.finished_con draft.old draft.old.con_name draft.old.sort) }
     ensures within { OnOk result (IsWithin draft.new) }
 {
+    let Some(name) = draft.con_name.take() else {
+        return Err(Refusal::Bad(DefError::Unexpected));
+    };
+    let Some(sort) = draft.sort else {
+        return Err(Refusal::Bad(DefError::Unexpected));
+    };
     let args = draft.args.take(alloc);
-    finish_con(&mut draft.def.cons, draft.sort, args)?;
+    draft.def.cons.push(Con { name, sort, args })?;
     Ok(&[])
 }
 
 /// The end of a hook's outputs, and of the hook.
 fn close_outputs(alloc: Global, draft: &mut Draft) -> Met
     requires within { IsWithin draft.old }
-    ensures gives { Gives (λ next. turn_of draft.new next.now) error_of result (met (spec.finished_hook draft.old) []) }
+    ensures gives { Gives (λ next. turn_of draft.new next.now) error_of result (spec.finished_hook draft.old draft.old.hook_name draft.old.sort) }
     ensures within { OnOk result (IsWithin draft.new) }
 {
+    let Some(name) = draft.hook_name.take() else {
+        return Err(Refusal::Bad(DefError::Unexpected));
+    };
+    let Some(sort) = draft.sort else {
+        return Err(Refusal::Bad(DefError::Unexpected));
+    };
     let inputs = draft.inputs.take(alloc);
     let outputs = draft.outputs.take(alloc);
-    finish_hook(&mut draft.def.hooks, inputs, draft.sort, outputs)?;
+    draft.def.hooks.push(Hook {
+        name,
+        inputs,
+        sort,
+        outputs,
+    })?;
+    draft.hooks.push(draft.begun)?;
     Ok(&[])
 }
 
@@ -485,7 +454,7 @@ fn bones(alloc: Global, draft: &mut Draft, body: Body, lexeme: Lexeme, at: usize
     ensures within { OnOk result (IsWithin draft.new) }
 {
     if lexeme.is_right_brace() {
-        end_bones(draft, body)
+        end_bones(alloc, draft, body)
     } else {
         bone(alloc, draft, body, lexeme, at)
     }
@@ -513,7 +482,7 @@ fn closing(draft: &mut Draft, lexeme: Lexeme, at: usize) -> Met
     if !lexeme.is_arrow() {
         return Err(Refusal::Bad(DefError::Unexpected));
     }
-    draft.marks.push(at)?;
+    draft.closing = at;
     Ok(&[])
 }
 
@@ -534,7 +503,7 @@ pub(crate) fn meet(
     match expected {
         Expected::Skel => skel(lexeme),
         Expected::Version => version(lexeme),
-        Expected::Item => item(alloc, draft, lexeme, at),
+        Expected::Item => item(draft, lexeme, at),
         Expected::SortName => sort_name(alloc, draft, lexeme),
         Expected::ConName => con_name(alloc, draft, lexeme),
         Expected::HookName => hook_name(alloc, draft, lexeme),

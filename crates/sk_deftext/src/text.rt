@@ -3,12 +3,14 @@
 ghost use Rattle.std.specs.Prelude.{◌≡◌, ◌-◌, ◌<◌, ◌^◌, length, Ok, IfOk};
 ghost use Rattle.sk_base.specs.Answer.{Gives};
 ghost use Rattle.sk_lex.specs.Tokens.{tokens_of};
+ghost use Rattle.sk_def.specs.Fits.{DefinitionFits};
 ghost use Rattle.sk_deftext.specs.Faults.{refusal_of};
+ghost use Rattle.sk_deftext.specs.Places.{PlacesFit};
 ghost use Rattle.sk_deftext.specs.Texts.{read_definition, source_of};
 
 use crate::draft::Draft;
 use crate::fault::DefFault;
-use crate::places::{place_at_token, places_of, rule_places};
+use crate::places::{Cursor, place_at_token, places_of, rule_places};
 use crate::read::read_draft;
 use crate::source::{Places, Source};
 use sk_base::{NoMemory, place_of};
@@ -27,7 +29,13 @@ fn with_places(
     ensures { IfOk result (λ source. source ≡ source_of text.now tokens.now draft) }
 {
     let places = Places {
-        hooks: places_of(alloc, text, tokens, draft.hooks.as_slice())?,
+        hooks: places_of(
+            alloc,
+            text,
+            tokens,
+            &mut Cursor::new(),
+            draft.hooks.as_slice(),
+        )?,
         rules: rule_places(alloc, text, tokens, draft.rules.as_slice())?,
     };
     Ok(Source {
@@ -41,7 +49,11 @@ fn with_places(
 #[tactic(auto, unfolding(crate::specs::Texts::read_definition))]
 pub fn read_def(alloc: Global, text: &[u8]) -> Result<Source, DefFault>
     requires { length text.now < 2 ^ 32 - 1 }
-    ensures { Gives (λ source. source) refusal_of result (read_definition text.now) }
+    ensures gives { Gives (λ source. source) refusal_of result (read_definition text.now) }
+
+    // What was read is within the limits, each number in it is of its lists, and each part of it has its place.
+    ensures fits { IfOk result (λ source. DefinitionFits source.def) }
+    ensures placed { IfOk result PlacesFit }
 {
     let tokens = match tokens(alloc, text) {
         Ok(tokens) => tokens,

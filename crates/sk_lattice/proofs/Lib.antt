@@ -1,10 +1,13 @@
 pub mod Antisymmetry
+pub mod Endings
 pub mod Falling
 pub mod Kept
 pub mod Meets
+pub mod PaddingLemmas
 pub mod Parts
 pub mod Pushes
 pub mod SortLemmas
 pub mod Sorted
+pub mod TextLemmas
 pub mod Tuples
 pub mod Widening

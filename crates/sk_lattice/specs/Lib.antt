@@ -2,10 +2,13 @@ pub mod Truth
 pub mod Thresholds
 pub mod Domain
 pub mod DomainLaws
+pub mod DomainTexts
 pub mod Order
 pub mod Empty
 pub mod Covers
 pub mod Merge
+pub mod Padding
+pub mod Texts
 pub mod Laws
 pub mod Ranks
 pub mod Shapes

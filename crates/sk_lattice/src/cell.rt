@@ -1,19 +1,23 @@
 //! Abstract cells, one for each name of a store.
 
-ghost use Rattle.std.specs.Prelude.{◌≡◌, length, IfOk};
+ghost use Rattle.std.specs.Prelude.{◌≡◌, ◌++◌, Some, length, IfOk, OnOk, OnErr};
 ghost use Rattle.std.specs.List.{list_any};
 ghost use lib.Pointwise.{pointwise};
 ghost use Rattle.sk_base.specs.Lists.{zip_with};
+ghost use Rattle.sk_base.specs.Sink.{AppendsPrefix};
 ghost use Rattle.sk_lattice.specs.Covers.{cell_covers};
 ghost use Rattle.sk_lattice.specs.Empty.{cell_is_empty};
 ghost use Rattle.sk_lattice.specs.Merge.{way_of, cell_merge};
 ghost use Rattle.sk_lattice.specs.Order.{cell_leq};
+ghost use Rattle.sk_lattice.specs.Texts.{cells_text, entry_text, mark_text};
+ghost use Rattle.sk_lattice.specs.Padding.{unset_cell, padded_cells, IsPartlyPadded};
 
 use crate::domain::NumDom;
 use crate::merge::Merge;
+use crate::truth::AbsBool;
 use crate::value::AbsVal;
-use sk_base::{NoMemory, Seq};
-use sk_value::{Store, Value};
+use sk_base::{Ident, Names, NoMemory, Seq};
+use sk_value::{Store, Value, put_between, put_bytes};
 use std::alloc::Global;
 
 /// What a name may hold, and whether it may be unset.
@@ -27,6 +31,22 @@ pub struct AbsCell<D> {
 pub type CellList<D> = Seq<AbsCell<D>>;
 
 impl<D: NumDom> AbsCell<D> {
+    /// The cell of a name that is surely unset.
+    pub fn unset() -> Self
+        ensures { result ≡ unset_cell D.domain }
+    {
+        AbsCell {
+            val: AbsVal {
+                num: D::empty(),
+                truth: AbsBool {
+                    has_true: false,
+                    has_false: false,
+                },
+            },
+            unset: true,
+        }
+    }
+
     /// Part by part.
     pub fn leq(&self, other: &Self) -> bool
         ensures { result ≡ cell_leq D.domain self.now other.now }
@@ -110,4 +130,52 @@ pub(crate) fn merge_cells<D: NumDom>(
         merged.push(cells.get(at).merge(merge, others.get(at)))?;
     }
     Ok(merged)
+}
+
+/// The store gains cells of unset names until it has one for each name.
+pub(crate) fn pad_cells<D: NumDom>(cells: &mut CellList<D>, names: usize) -> Result<(), NoMemory>
+    ensures ok { OnOk result (cells.new ≡ padded_cells D.domain names cells.old) }
+    ensures err { OnErr result (IsPartlyPadded D.domain names cells.old cells.new) }
+{
+    for _name in cells.len()..names {
+        cells.push(AbsCell::unset())?;
+    }
+    Ok(())
+}
+
+/// Appends the mark of a name that may be unset.
+fn put_mark(out: &mut Vec<u8>, unset: bool) -> Result<(), NoMemory>
+    ensures ok { OnOk result (out.new.items ≡ out.old.items ++ mark_text unset) }
+    ensures err { OnErr result (out.new.items ≡ out.old.items) }
+{
+    put_bytes(out, if unset { b"?" } else { b"" })
+}
+
+/// Appends a name with its cell.
+fn put_entry<D: NumDom>(out: &mut Vec<u8>, name: &Ident, cell: &AbsCell<D>) -> Result<(), NoMemory>
+    ensures ok { OnOk result (out.new.items ≡ out.old.items ++ entry_text D.texts (name.now, cell.now)) }
+    ensures err { OnErr result (AppendsPrefix (Some out.old.items) (Some out.new.items) (entry_text D.texts (name.now, cell.now))) }
+{
+    put_bytes(out, name.as_bytes())?;
+    put_bytes(out, b"=")?;
+    cell.val.put_text(out)?;
+    put_mark(out, cell.unset)
+}
+
+/// Appends the names that may be set, with their cells.
+pub(crate) fn put_cells<D: NumDom>(out: &mut Vec<u8>, names: &Names, cells: &CellList<D>) -> Result<(), NoMemory>
+    ensures ok { OnOk result (out.new.items ≡ out.old.items ++ cells_text D.domain D.texts names.now cells.now) }
+    ensures err { OnErr result (AppendsPrefix (Some out.old.items) (Some out.new.items) (cells_text D.domain D.texts names.now cells.now)) }
+{
+    put_bytes(out, b"{")?;
+    let mut is_first = true;
+    for at in 0..cells.len().min(names.count()) {
+        let cell = cells.get(at);
+        if !cell.val.is_empty() {
+            put_between(out, is_first)?;
+            put_entry(out, names.name(at as u8), cell)?;
+            is_first = false;
+        }
+    }
+    put_bytes(out, b"}")
 }

@@ -1,9 +1,15 @@
 //! What a numeric domain is.
 
-ghost use Rattle.std.specs.Prelude.{◌≡◌};
+ghost use Rattle.std.specs.Prelude.{◌≡◌, ◌≤◌, ◌++◌, drop, length, Ok, Some, OnOk, OnErr};
+ghost use Rattle.sk_base.specs.Sink.{AppendsPrefix};
+ghost use Rattle.sk_lex.specs.Symbols.{symbols};
+ghost use Rattle.sk_lex.specs.Tokens.{tokens_of};
+ghost use Rattle.sk_lattice.specs.DomainTexts.{taken_at};
 
 use crate::thresholds::Thresholds;
 use crate::truth::AbsBool;
+use sk_base::NoMemory;
+use sk_lex::Token;
 use sk_value::{Arith, Compare, Refine};
 
 /// Elements that stand for sets of numbers, with their order and the operations on them.
@@ -11,6 +17,7 @@ pub trait NumDom: Copy {
     ghost use Rattle.std.specs.Prelude.{Bool};
     ghost use Rattle.sk_lattice.specs.Domain.{Domain};
     ghost use Rattle.sk_lattice.specs.DomainLaws.{DomainLaws, FiniteLaw};
+    ghost use Rattle.sk_lattice.specs.DomainTexts.{DomainTexts, TextLaws};
 
     /// Whether every widening is the join.
     const FINITE: bool;
@@ -19,6 +26,13 @@ pub trait NumDom: Copy {
 
     /// What each call computes.
     ghost domain: { Domain Self };
+
+    /// The texts of the elements.
+    ghost texts: { DomainTexts Self };
+
+    /// The domain's word in texts.
+    fn domain_word() -> &'static str
+        ensures { result.now ≡ texts.word };
 
     /// The element that holds no number.
     fn empty() -> Self
@@ -76,8 +90,22 @@ pub trait NumDom: Copy {
     fn refine(op: Refine, a: Self, b: Self) -> (Self, Self)
         ensures { result ≡ domain.refine op a b };
 
+    /// Appends the element's text. After a refusal a prefix of it was appended.
+    fn put_text(self, out: &mut Vec<u8>) -> Result<(), NoMemory>
+        ensures ok { OnOk result (out.new.items ≡ out.old.items ++ texts.text self) }
+        ensures err { OnErr result (AppendsPrefix (Some out.old.items) (Some out.new.items) (texts.text self)) };
+
+    /// The element whose text stands at a place of a text's tokens, with the place after it, or the place of the first
+    /// token that fits no element's text.
+    fn take_text(text: &[u8], tokens: &[Token], from: usize) -> Result<(Self, usize), usize>
+        requires tokens { tokens_of text.now ≡ Ok tokens.now }
+        requires place { from ≤ length tokens.now }
+        ensures { result ≡ taken_at from (texts.taken (drop from (symbols text.now tokens.now))) };
+
     /// The laws that every domain meets.
     ghost laws: { DomainLaws domain };
 
     ghost finite: { FiniteLaw FINITE domain };
+
+    ghost text_laws: { TextLaws domain texts };
 }

@@ -1,18 +1,22 @@
 //! Abstract flows.
 
-ghost use Rattle.std.specs.Prelude.{◌≡◌, IsTrue, IfOk};
+ghost use Rattle.std.specs.Prelude.{◌≡◌, ◌++◌, Some, IsTrue, IfOk, OnOk, OnErr};
+ghost use Rattle.sk_base.specs.Sink.{AppendsPrefix};
 ghost use Rattle.sk_lattice.specs.Covers.{flow_covers};
 ghost use Rattle.sk_lattice.specs.Empty.{flow_is_empty};
 ghost use Rattle.sk_lattice.specs.Merge.{way_of, flow_merge};
 ghost use Rattle.sk_lattice.specs.Order.{flow_leq, flows_fit};
+ghost use Rattle.sk_lattice.specs.Padding.{padded_flow, FlowIsPartlyPadded};
+ghost use Rattle.sk_lattice.specs.Texts.{flow_text};
 
+use crate::cell::{pad_cells, put_cells};
 use crate::domain::NumDom;
 use crate::merge::Merge;
 use crate::store::AbsStore;
 use crate::truth::AbsBool;
 use crate::value::AbsVal;
-use sk_base::NoMemory;
-use sk_value::Flow;
+use sk_base::{Names, NoMemory};
+use sk_value::{Flow, put_bytes};
 use std::alloc::Global;
 
 /// What a variable of a rule may hold.
@@ -74,6 +78,32 @@ impl<D: NumDom> AbsFlow<D> {
             AbsFlow::Val(a) => AbsFlow::Val(*a),
             AbsFlow::Store(a) => AbsFlow::Store(a.copy(alloc)?),
         })
+    }
+
+    /// A store with fewer cells than names gains cells of unset names until it has so many; any other flow stays. After
+    /// a refusal the store has its old cells and some of the new ones.
+    pub fn pad(&mut self, names: usize) -> Result<(), NoMemory>
+        ensures ok { OnOk result (self.new ≡ padded_flow D.domain names self.old) }
+        ensures err { OnErr result (FlowIsPartlyPadded D.domain names self.old self.new) }
+    {
+        match self {
+            AbsFlow::Store(AbsStore::Cells(cells)) => pad_cells(cells, names),
+            _ => Ok(()),
+        }
+    }
+
+    /// Appends the text, in which a store lists the names that may be set. After a refusal a prefix of it was appended.
+    pub fn put_text(&self, names: &Names, out: &mut Vec<u8>) -> Result<(), NoMemory>
+        ensures ok { OnOk result (out.new.items ≡ out.old.items ++ flow_text D.domain D.texts names.now self.now) }
+        ensures err { OnErr result (AppendsPrefix (Some out.old.items) (Some out.new.items) (flow_text D.domain D.texts names.now self.now)) }
+    {
+        match self {
+            AbsFlow::Int(a) => a.put_text(out),
+            AbsFlow::Bool(a) => a.put_text(out),
+            AbsFlow::Val(a) => a.put_text(out),
+            AbsFlow::Store(AbsStore::Empty) => put_bytes(out, b"none"),
+            AbsFlow::Store(AbsStore::Cells(cells)) => put_cells(out, names, cells),
+        }
     }
 
     pub(crate) fn merge(&self, alloc: Global, merge: Merge, other: &Self) -> Result<Self, NoMemory>

@@ -99,6 +99,13 @@ impl Thresholds {
         let _marks = &self.marks;
     }
 
+    /// The marks as a slice.
+    pub fn as_slice(&self) -> &[i64]
+        ensures { result.now ≡ self.now }
+    {
+        self.marks.as_slice()
+    }
+
     /// How many marks there are.
     pub fn len(&self) -> usize
         ensures { result ≡ length self.now }

@@ -1,19 +1,22 @@
 //! Abstract tuples.
 
-ghost use Rattle.std.specs.Prelude.{◌≡◌, ◌<◌, [], ◌∷◌, ◌++◌, length, slice_get, Some, IsTrue, IfOk, OnOk, OnErr};
-ghost use Rattle.std.specs.List.{list_any};
+ghost use Rattle.std.specs.Prelude.{◌≡◌, ◌<◌, [], ◌∷◌, ◌++◌, length, slice_get, Some, IsTrue, IfOk, OnOk, OnErr, map};
+ghost use Rattle.std.specs.List.{AllZip, list_any};
 ghost use lib.Pointwise.{pointwise};
+ghost use Rattle.sk_base.specs.Sink.{AppendsPrefix};
 ghost use Rattle.sk_lattice.specs.Covers.{flow_covers, tuple_covers};
 ghost use Rattle.sk_lattice.specs.Empty.{IsTuple, flow_is_empty, flow_is_proper};
 ghost use Rattle.sk_lattice.specs.Merge.{way_of, tuple_merge, tuple_meet, Join, Widen};
 ghost use Rattle.sk_lattice.specs.Order.{flow_leq, tuple_leq, tuples_fit};
+ghost use Rattle.sk_lattice.specs.Padding.{padded_flow, FlowIsPartlyPadded};
+ghost use Rattle.sk_lattice.specs.Texts.{tuple_text};
 
 use crate::domain::NumDom;
 use crate::flow::AbsFlow;
 use crate::merge::Merge;
 use crate::thresholds::Thresholds;
-use sk_base::NoMemory;
-use sk_value::{Flow, Tuple};
+use sk_base::{Names, NoMemory};
+use sk_value::{Flow, Tuple, put_between, put_bytes};
 use std::alloc::Global;
 use std::marker::Model;
 
@@ -84,6 +87,24 @@ impl<D: NumDom> AbsTuple<D> {
         Ok(AbsTuple { flows })
     }
 
+    /// Each store with fewer cells than names gains cells of unset names until it has so many; all else stays. After a
+    /// refusal each store has its old cells and some of the new ones.
+    pub fn pad(&mut self, names: usize) -> Result<(), NoMemory>
+        ensures ok { OnOk result (self.new ≡ map (padded_flow D.domain names) self.old) }
+        ensures err { OnErr result (AllZip (FlowIsPartlyPadded D.domain names) self.old self.new) }
+    {
+        pad_flows(&mut self.flows, names)
+    }
+
+    /// Appends the flows in parentheses; a store lists the names that may be set, in the order of the names. After a
+    /// refusal a prefix of this text was appended.
+    pub fn put_text(&self, names: &Names, out: &mut Vec<u8>) -> Result<(), NoMemory>
+        ensures ok { OnOk result (out.new.items ≡ out.old.items ++ tuple_text D.domain D.texts names.now self.now) }
+        ensures err { OnErr result (AppendsPrefix (Some out.old.items) (Some out.new.items) (tuple_text D.domain D.texts names.now self.now)) }
+    {
+        put_flows(&self.flows, names, out)
+    }
+
     /// Flow by flow.
     pub fn leq(&self, other: &Self) -> bool
         ensures { result ≡ tuple_leq D.domain self.now other.now }
@@ -131,6 +152,30 @@ impl<D: NumDom> AbsTuple<D> {
             Ok(Some(AbsTuple { flows }))
         }
     }
+}
+
+fn pad_flows<D: NumDom>(flows: &mut [AbsFlow<D>], names: usize) -> Result<(), NoMemory>
+    ensures ok { OnOk result (flows.new ≡ map (padded_flow D.domain names) flows.old) }
+    ensures err { OnErr result (AllZip (FlowIsPartlyPadded D.domain names) flows.old flows.new) }
+{
+    for flow in flows {
+        flow.pad(names)?;
+    }
+    Ok(())
+}
+
+fn put_flows<D: NumDom>(flows: &[AbsFlow<D>], names: &Names, out: &mut Vec<u8>) -> Result<(), NoMemory>
+    ensures ok { OnOk result (out.new.items ≡ out.old.items ++ tuple_text D.domain D.texts names.now flows.now) }
+    ensures err { OnErr result (AppendsPrefix (Some out.old.items) (Some out.new.items) (tuple_text D.domain D.texts names.now flows.now)) }
+{
+    put_bytes(out, b"(")?;
+    let mut is_first = true;
+    for flow in flows {
+        put_between(out, is_first)?;
+        flow.put_text(names, out)?;
+        is_first = false;
+    }
+    put_bytes(out, b")")
 }
 
 fn flows_leq<D: NumDom>(flows: &[AbsFlow<D>], others: &[AbsFlow<D>]) -> bool

@@ -1,15 +1,18 @@
 //! Abstract values.
 
-ghost use Rattle.std.specs.Prelude.{◌≡◌};
+ghost use Rattle.std.specs.Prelude.{◌≡◌, ◌++◌, Some, OnOk, OnErr};
+ghost use Rattle.sk_base.specs.Sink.{AppendsPrefix};
 ghost use Rattle.sk_lattice.specs.Covers.{val_covers};
 ghost use Rattle.sk_lattice.specs.Empty.{val_is_empty};
 ghost use Rattle.sk_lattice.specs.Merge.{way_of, val_merge};
 ghost use Rattle.sk_lattice.specs.Order.{val_leq};
+ghost use Rattle.sk_lattice.specs.Texts.{val_text};
 
 use crate::domain::NumDom;
 use crate::merge::Merge;
 use crate::truth::AbsBool;
-use sk_value::Value;
+use sk_base::NoMemory;
+use sk_value::{Value, put_bytes};
 
 /// The numbers and the truth values that a value may be.
 #[derive(Clone, Copy)]
@@ -41,6 +44,16 @@ impl<D: NumDom> AbsVal<D> {
         ensures { result ≡ val_is_empty D.domain self.now }
     {
         self.num.is_empty() && self.truth.is_empty()
+    }
+
+    /// Appends the text of both parts. After a refusal a prefix of it was appended.
+    pub fn put_text(&self, out: &mut Vec<u8>) -> Result<(), NoMemory>
+        ensures ok { OnOk result (out.new.items ≡ out.old.items ++ val_text D.texts self.now) }
+        ensures err { OnErr result (AppendsPrefix (Some out.old.items) (Some out.new.items) (val_text D.texts self.now)) }
+    {
+        self.num.put_text(out)?;
+        put_bytes(out, b"/")?;
+        self.truth.put_text(out)
     }
 
     pub(crate) fn merge(&self, merge: Merge, other: &Self) -> Self

@@ -9,20 +9,25 @@ use Rattle.sk_def.specs.declared.def.Con.{Con}
 use Rattle.sk_def.specs.declared.ids.SortId.{SortId}
 use Rattle.sk_def.specs.declared.ids.HookId.{HookId}
 use Rattle.sk_def.specs.Rules.{rule_of}
+use Rattle.std.specs.Prelude.{◌↔◌}
+use Rattle.sk_def.specs.Fits.{DefinitionFits, definition_fits}
+use Rattle.sk_def.proofs.FitTests.{definition_fit, definition_test}
+use Rattle.sk_sort.specs.declared.error.SortError.TheVariants.{Undefined}
+use Rattle.sk_sort.specs.declared.error.SortFault.{SortFault}
 use Rattle.sk_sort.specs.declared.error.SortFault.TheVariants.{Bad, MissingRule}
 use Rattle.sk_sort.specs.Parts.{PartFault}
 use Rattle.sk_sort.specs.Rules.{rule_fault}
-use Rattle.sk_sort.specs.Definition.{bad_rule, missing_constructor, missing_rule, first_fault, IsWellSorted}
+use Rattle.sk_sort.specs.Definition.{bad_rule, missing_constructor, missing_rule, checked_fault, first_fault, IsWellSorted}
 
 -- neither of two is there
-both_none : {A B : Type 0} (f : A → B) (a : Option A) (b : Option B) → option_or (option_map f a) b ≡ None → (a ≡ None) × (b ≡ None)
+pub both_none : {A B : Type 0} (f : A → B) (a : Option A) (b : Option B) → option_or (option_map f a) b ≡ None → (a ≡ None) × (b ≡ None)
 both_none f None b h = (refl, h)
 both_none f (Some x) b h = cc
 
 none_both : {A B : Type 0} (f : A → B) (a : Option A) (b : Option B) → a ≡ None → b ≡ None → option_or (option_map f a) b ≡ None
 none_both f a b p q = rw (p, q) refl
 
-none_none : {A : Type 0} (a b : Option A) → option_or a b ≡ None → (a ≡ None) × (b ≡ None)
+pub none_none : {A : Type 0} (a b : Option A) → option_or a b ≡ None → (a ≡ None) × (b ≡ None)
 none_none None b h = (refl, h)
 none_none (Some x) b h = cc
 
@@ -132,10 +137,11 @@ no_missing_rule d place (y ∷ ys) h =
 from_zero : (n : ℕ) → 0 + n ≡ n
 from_zero n = omega arith
 
-pub well_sorted : (d : Def) → first_fault d ≡ None → IsWellSorted d
-well_sorted d h =
+pub well_sorted : (d : Def) → DefinitionFits d → checked_fault d ≡ None → IsWellSorted d
+well_sorted d fits h =
     let p = none_none (bad_rule d 0 d.rules) (missing_rule d 0 d.hooks) h in
     record {
+      fits = fits;
       rules_pass = λ place rule e.
           let P : ℕ → Type 0 = λ n. rule_fault d (take n d.rules) rule ≡ None in
           subst P (from_zero place) (rules_pass d 0 d.rules p.0 place rule e);
@@ -145,8 +151,8 @@ well_sorted d h =
           subst Q (from_zero con) (constructors_have d (record { 0 = hook }) x.sort 0 d.cons (subst P (from_zero hook) (hooks_have d 0 d.hooks p.1 hook x e)) con c f s);
     }
 
-pub no_fault : (d : Def) → IsWellSorted d → first_fault d ≡ None
-no_fault d w =
+no_failing_check : (d : Def) → IsWellSorted d → checked_fault d ≡ None
+no_failing_check d w =
     let a = no_bad_rule d 0 d.rules (λ k rule e.
     let P : ℕ → Type 0 = λ n. rule_fault d (take n d.rules) rule ≡ None in
     subst P (sym (from_zero k)) (w.rules_pass k rule e)) in
@@ -156,3 +162,31 @@ no_fault d w =
     let Q : ℕ → Type 0 = λ n. is_some (rule_of d (record { 0 = k }) (record { 0 = n })) ≡ true in
     subst Q (sym (from_zero j)) (w.complete k j x c e f s)))) in
     rw (a, b) refl
+
+-- The first fault, by whether the definition fits.
+
+if_fits : (b : Bool) (checked : Option SortFault) (fault : SortFault) → b ≡ true → cond b checked (Some fault) ≡ checked
+if_fits true checked fault e = refl
+if_fits false checked fault e = cc
+
+if_not : (b : Bool) (checked : Option SortFault) (fault : SortFault) → b ≡ false → cond b checked (Some fault) ≡ Some fault
+if_not false checked fault e = refl
+if_not true checked fault e = cc
+
+if_none : (b : Bool) (checked : Option SortFault) (fault : SortFault) → cond b checked (Some fault) ≡ None → (b ≡ true) × (checked ≡ None)
+if_none true checked fault h = (refl, h)
+if_none false checked fault h = cc
+
+pub fault_of_fitting : (d : Def) → definition_fits d ≡ true → first_fault d ≡ checked_fault d
+fault_of_fitting d e = if_fits (definition_fits d) (checked_fault d) (Bad Undefined 0 0) e
+
+pub fault_of_others : (d : Def) → definition_fits d ≡ false → first_fault d ≡ Some (Bad Undefined 0 0)
+fault_of_others d e = if_not (definition_fits d) (checked_fault d) (Bad Undefined 0 0) e
+
+pub well_sorted_exactly : (d : Def) → IsWellSorted d ↔ (first_fault d ≡ None)
+well_sorted_exactly d = (
+  (λ w. fault_of_fitting d (definition_test d w.fits) ∙ no_failing_check d w),
+  (λ h.
+      let p = if_none (definition_fits d) (checked_fault d) (Bad Undefined 0 0) h in
+      well_sorted d (definition_fit d p.0) p.1),
+)

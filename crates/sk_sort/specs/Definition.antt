@@ -8,8 +8,9 @@ use Rattle.sk_def.specs.declared.def.Con.{Con}
 use Rattle.sk_def.specs.declared.ids.SortId.{SortId}
 use Rattle.sk_def.specs.declared.ids.HookId.{HookId}
 use Rattle.sk_def.specs.declared.ids.ConId.{ConId}
-use Rattle.sk_def.specs.Fits.{DefinitionFits}
+use Rattle.sk_def.specs.Fits.{RuleFits, DefinitionFits, definition_fits}
 use Rattle.sk_def.specs.Rules.{rule_of}
+use Rattle.sk_sort.specs.declared.error.SortError.TheVariants.{Undefined}
 use Rattle.sk_sort.specs.declared.error.SortFault.{SortFault}
 use Rattle.sk_sort.specs.declared.error.SortFault.TheVariants.{Bad, MissingRule, NoMemory}
 use Rattle.sk_sort.specs.Parts.{PartFault}
@@ -34,11 +35,17 @@ missing_rule d place (hook ∷ hooks) =
     option_or (option_map (MissingRule (record { 0 = place })) (missing_constructor d (record { 0 = place }) hook.sort 0 d.cons)) (missing_rule d (place + 1) hooks)
 
 -- the first check that fails, and where none does the first rule that is missing
-abbrev pub first_fault : Def → Option SortFault
-first_fault d = option_or (bad_rule d 0 d.rules) (missing_rule d 0 d.hooks)
+abbrev pub checked_fault : Def → Option SortFault
+checked_fault d = option_or (bad_rule d 0 d.rules) (missing_rule d 0 d.hooks)
 
--- no check fails, and each hook has a rule for each constructor of its sort
+-- The first fault. A definition that is past its limits, or has a number that isn't of its lists, is refused
+-- before all checks, as `Undefined` at the header of its first rule.
+abbrev pub first_fault : Def → Option SortFault
+first_fault d = if definition_fits d then checked_fault d else Some (Bad Undefined 0 0)
+
+-- a definition is within its limits, no check fails, and each hook has a rule for each constructor of its sort
 pub record IsWellSorted (d : Def) : Type 0 where
+  pub fits : DefinitionFits d
   pub rules_pass : (place : ℕ) (rule : Rule) → slice_get d.rules place ≡ Some rule → rule_fault d (take place d.rules) rule ≡ None
   pub complete : (hook con : ℕ) (h : Hook) (c : Con) → slice_get d.hooks hook ≡ Some h → slice_get d.cons con ≡ Some c →
       c.sort.0 ≡ h.sort.0 → IsSome (rule_of d (record { 0 = hook }) (record { 0 = con }))
@@ -51,6 +58,19 @@ AnswersFault fault (Err e) = fault ≡ Some e
 
 -- a well-sorted definition, with what a walk of its rules asks for
 pub record DefinitionIsSorted (d : Def) : Type 0 where
-  pub fits : DefinitionFits d
   pub well_sorted : IsWellSorted d
   pub rules_sorted : All (RuleIsSorted d) d.rules
+
+-- the rule of a hook and a constructor, with what a walk of its bones asks
+pub record RuleFound (d : Def) (hook : HookId) (con : ConId) : Type 0 where
+  pub rule : Rule
+  pub is_first : rule_of d hook con ≡ Some rule
+  pub of_hook : rule.hook.0 ≡ hook.0
+  pub of_con : rule.con.0 ≡ con.0
+  pub fits : RuleFits d rule
+  pub sorted : RuleIsSorted d rule
+
+-- each hook has a rule for each constructor of its sort, and it is sorted
+abbrev pub HasRules : Def → Type 0
+HasRules d = (hook : HookId) (con : ConId) (h : Hook) (c : Con) →
+    slice_get d.hooks hook.0 ≡ Some h → slice_get d.cons con.0 ≡ Some c → c.sort.0 ≡ h.sort.0 → RuleFound d hook con

@@ -1,18 +1,17 @@
 //! The sort check of a definition.
-ghost use Rattle.std.specs.Prelude.{◌≡◌, ◌≤◌, ◌↔◌, length, All, None, OnOk, IfOk};
+ghost use Rattle.std.specs.Prelude.{◌≡◌, ◌≤◌, length, IfOk};
 ghost use Rattle.sk_def.specs.declared.def.Def.{Def};
 ghost use Rattle.sk_def.specs.Fits.{DefinitionFits};
-ghost use Rattle.sk_sort.specs.Rules.{RuleIsSorted};
-ghost use Rattle.sk_sort.specs.Definition.{bad_rule, missing_constructor, missing_rule, first_fault, AnswersFault, DefinitionIsSorted, IsWellSorted};
+ghost use Rattle.sk_sort.specs.Definition.{bad_rule, missing_constructor, missing_rule, checked_fault, first_fault, AnswersFault, DefinitionIsSorted};
 
-use crate::SortFault;
 use crate::interp::SortStop;
 use crate::rule::check_rule;
-use sk_def::{ConId, Def, HookId, SortId};
+use crate::{SortError, SortFault};
+use sk_def::{ConId, Def, HookId, SortId, definition_fits};
 use std::alloc::Global;
 use std::marker::Model;
 
-/// A definition that is well sorted.
+/// A definition that is well sorted. Only `check_sorts` makes one.
 #[derive(Drop)]
 pub struct Checked {
     def: Def,
@@ -27,6 +26,7 @@ impl Model for Checked {
 }
 
 impl Checked {
+    /// The definition. It is well sorted, and its rules are as a walk asks.
     pub fn def(&self) -> &Def
         ensures is { result.now ≡ self.now }
         ensures sorted { DefinitionIsSorted self.now }
@@ -35,23 +35,39 @@ impl Checked {
     }
 }
 
-/// Checks the sorts of a definition. A definition with a fault is dropped; the fault is the first one.
-#[tactic(auto, using(crate::proofs::WellSorted::well_sorted))]
+/// Checks the sorts of a definition. `Bad` is the first check that fails, in the order of the text;
+/// `MissingRule` comes only where none fails. A definition that is past its limits, or has a number that
+/// isn't of its lists, is `Undefined` at the header of its first rule. One with a fault is dropped.
 pub fn check_sorts(alloc: Global, def: Def) -> Result<Checked, SortFault>
-    requires { DefinitionFits def }
     ensures answers { AnswersFault (first_fault def) result }
     ensures same { IfOk result (λ checked. checked ≡ def) }
 {
-    check_rules(alloc, &def)?;
-    check_complete(&def)?;
-    Ok(Checked { def })
+    if !definition_fits(&def) {
+        return Err(SortFault::Bad {
+            why: SortError::Undefined,
+            rule: 0,
+            bone: 0,
+        });
+    }
+    match check_all(alloc, &def) {
+        Ok(()) => Ok(Checked { def }),
+        Err(fault) => Err(fault),
+    }
+}
+
+/// The checks of all rules, and then that none is missing.
+fn check_all(alloc: Global, def: &Def) -> Result<(), SortFault>
+    requires { DefinitionFits def.now }
+    ensures { AnswersFault (checked_fault def.now) result }
+{
+    check_rules(alloc, def)?;
+    check_complete(def)
 }
 
 /// The checks of all rules.
 fn check_rules(alloc: Global, def: &Def) -> Result<(), SortFault>
     requires { DefinitionFits def.now }
-    ensures answers { AnswersFault (bad_rule def.now 0 def.now.rules) result }
-    ensures sorted { OnOk result (All (RuleIsSorted def.now) def.now.rules) }
+    ensures { AnswersFault (bad_rule def.now 0 def.now.rules) result }
 {
     let rules = def.rules.as_slice();
     for (place, rule) in rules.iter().enumerate() {
@@ -96,11 +112,4 @@ fn missing_constructor(def: &Def, hook: HookId, sort: SortId) -> Option<ConId>
         }
     }
     None
-}
-
-/// A law of the definitions: a definition is well sorted exactly where it has no fault.
-pub fn is_well_sorted_exactly(def: &Def)
-    ensures { IsWellSorted def.now ↔ (first_fault def.now ≡ None) }
-{
-    let _def = def;
 }

@@ -8,8 +8,12 @@ mod defines;
 mod error;
 mod header;
 mod interp;
+mod laws;
 mod rule;
+#[cfg(test)]
+mod tests;
 
-pub use checked::{Checked, check_sorts, is_well_sorted_exactly};
+pub use checked::{Checked, check_sorts};
 pub use error::{SortError, SortFault};
 pub use interp::{SortInterp, SortStop};
+pub use laws::{bones_are_placed, hooks_have_rules, is_well_sorted_exactly, rules_are_sorted};

@@ -1,6 +1,9 @@
 use Rattle.std.proofs.Common.{◌≡◌, map, take}
-use Rattle.sk_deftext.specs.Places.{place_in}
+use Rattle.sk_deftext.specs.Places.{place_in, Stands}
 use Rattle.sk_deftext.proofs.places.places_of.Given as goal
 
 abbrev pub invariant-loop-number : goal.invariant-loop-number
-invariant-loop-number l = l.places ≡ map (place_in l.text l.tokens) (take l.number-index l.numbers)
+invariant-loop-number l = record {
+  stands : Stands l.text l.cursor.at l.cursor.place;
+  so_far : l.places ≡ map (place_in l.text l.tokens) (take l.number-index l.numbers);
+}

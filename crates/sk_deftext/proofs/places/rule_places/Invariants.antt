@@ -1,6 +1,9 @@
 use Rattle.std.proofs.Common.{◌≡◌, map, take}
-use Rattle.sk_deftext.specs.Places.{place_in}
+use Rattle.sk_deftext.specs.Places.{place_in, Stands}
 use Rattle.sk_deftext.proofs.places.rule_places.Given as goal
 
 abbrev pub invariant-loop-numbers : goal.invariant-loop-numbers
-invariant-loop-numbers l = l.places ≡ map (map (place_in l.text l.tokens)) (take l.numbers-index l.rules)
+invariant-loop-numbers l = record {
+  stands : Stands l.text l.cursor.at l.cursor.place;
+  so_far : l.places ≡ map (map (place_in l.text l.tokens)) (take l.numbers-index l.rules);
+}

@@ -1,0 +1,11 @@
+use Rattle.std.proofs.Common.{◌≡◌, ◌+◌, ◌-◌, length, slice_range, ap, ◌∙◌}
+use Rattle.sk_base.specs.Place.{place_at}
+use Rattle.sk_base.specs.declared.place.Place.{Place}
+use Rattle.sk_deftext.proofs.Columns.{place_on, both_parts}
+use Rattle.sk_deftext.proofs.places.place_after.Goals as goal
+
+pub returns : goal.returns
+returns c =
+    ap (λ n. record { line = c.args.cursor.place.line + (c.place_of-end.result.line - 1); column = n }) c.column_after.ensures
+    ∙ place_on c.args.text.now c.args.cursor.at c.args.to c.args.cursor.place c.place_of-end.result c.requires.order c.requires.within c.requires.stands.place_is
+    (both_parts _ _ c.place_of-end.ensures.line c.place_of-end.ensures.column)

@@ -1,0 +1,124 @@
+//! Texts of definitions and their answers.
+ghost use Rattle.std.specs.Prelude.{◌-◌, ◌^◌, ◌<◌, length};
+
+use crate::{DefFault, Which, read_def};
+use sk_base::Place;
+use sk_def::HookId;
+use sk_lex::LexError;
+use std::alloc::Global;
+use std::test::Fail;
+
+const MINI: &[u8] = b"skel 1
+sort expr
+con num : expr(number)
+con plus : expr(expr, expr)
+hook eval() expr -> (int)
+rule eval num(n) () { lit(n) -> (v) } -> (v)
+rule eval plus(a, b) () {
+  eval() a -> (x)
+  eval() b -> (y)
+  add(x, y) -> (z)
+} -> (z)
+";
+
+const CUT: &[u8] = b"skel 1
+sort expr
+con num : expr(number)
+con plus : expr(expr, expr)
+hook eval() expr -> (int)
+rule eval num(n) () { lit(n) -> (v) } -> (v)
+rule eval plus(a, b) () {
+  eval() a -> (x)
+  eval() b -> (y)
+  add(x, y) ->";
+
+const NESTED: &[u8] = b"skel 1
+sort t
+con c : t()
+hook go() t -> ()
+rule go c() () {
+either {
+either {
+either {
+either {
+either {
+either {
+either {
+either {
+either {
+} or { } with ()
+";
+
+/// The sizes of a definition's lists and three of its places, or its fault.
+fn read(alloc: Global, text: &[u8]) -> Result<([usize; 4], [Place; 3]), DefFault>
+    requires { length text.now < 2 ^ 32 - 1 }
+{
+    let source = read_def(alloc, text)?;
+    let sizes = [
+        source.def.sorts.len(),
+        source.def.cons.len(),
+        source.def.hooks.len(),
+        source.def.rules.len(),
+    ];
+    let here = Place { line: 1, column: 1 };
+    if source.def.hooks.len() != 1 || source.def.rules.len() != 2 {
+        return Ok((sizes, [here, here, here]));
+    }
+    if source.def.rules.get(1).bones.len() != 3 {
+        return Ok((sizes, [here, here, here]));
+    }
+    let places = [
+        source.places.hook(HookId(0)),
+        source.places.rule(1),
+        source.places.bone(1, 4),
+    ];
+    Ok((sizes, places))
+}
+
+fn at(line: u32, column: u32) -> Place {
+    Place { line, column }
+}
+
+#[test]
+fn reads_and_refuses(rt: HostRuntime) -> Result<(), Fail> {
+    let alloc = rt.alloc();
+    assert_eq!(rt;
+        read(alloc, MINI),
+        Ok(([1, 2, 1, 2], [at(5, 1), at(7, 1), at(11, 3)]))
+    );
+    let refused: [(&[u8], DefFault); 11] = [
+        (CUT, DefFault::Unexpected(at(10, 15))),
+        (b"", DefFault::Unexpected(at(1, 1))),
+        (
+            b"skel 9223372036854775808\nsort expr\n",
+            DefFault::Lex(LexError::NumberTooLarge, at(1, 6)),
+        ),
+        (b"skel 1\nsort sort\n", DefFault::Unexpected(at(2, 6))),
+        (b"skel 1\nsort int\n", DefFault::Duplicate(at(2, 6))),
+        (
+            b"skel 1\nsort t\ncon c : t()\nhook add() t -> (int)\n",
+            DefFault::Duplicate(at(4, 6)),
+        ),
+        (
+            b"skel 1\nsort expr\ncon num : expr(number)\ncon plus : expr(exp, expr)\n",
+            DefFault::Unknown(at(4, 17)),
+        ),
+        (
+            b"skel 1 %\nsort expr\n",
+            DefFault::Lex(LexError::BadChar, at(1, 8)),
+        ),
+        (
+            b"skel 1\nsort expr\ncon num : expr(number)\xff\n",
+            DefFault::Lex(LexError::BadUtf8, at(3, 23)),
+        ),
+        (
+            b"skel 1\nsort t\nhook h(int, int, int, int, int) t -> ()\n",
+            DefFault::TooMany(at(3, 28), Which::Flows),
+        ),
+        (NESTED, DefFault::TooMany(at(14, 1), Which::Nesting)),
+    ];
+    for (text, fault) in refused {
+        assert_eq!(rt; read(alloc, text), Err(fault));
+    }
+    Ok(())
+}

@@ -1,0 +1,16 @@
+pub mod Cursors
+pub mod Heights
+pub mod Induction
+pub mod Prefix
+pub mod WordOrder
+pub mod Sorted
+pub mod Unique
+pub mod ExchangeLemmas
+pub mod Members
+pub mod TrailLemmas
+pub mod TrailOrder
+pub mod Derivations
+pub mod ForestLemmas
+pub mod OneResult
+pub mod LeastSubtrees
+pub mod FirstOfEach

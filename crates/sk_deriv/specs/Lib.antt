@@ -1,0 +1,9 @@
+pub mod Cursors
+pub mod Env
+pub mod Exchange
+pub mod Forest
+pub mod Listing
+pub mod Moves
+pub mod Program
+pub mod Results
+pub mod Tree

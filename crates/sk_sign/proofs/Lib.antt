@@ -1,0 +1,4 @@
+pub mod BestLemmas
+pub mod Finding
+pub mod Grids
+pub mod Witnesses
