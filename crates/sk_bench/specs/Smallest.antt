@@ -1,5 +1,5 @@
 -- The smallest definitions: the forms that are built so far.
-use Rattle.std.specs.Prelude.{ℕ, ◌==◌, ◌&&◌, nat_lt, not, Bool, true, false, List, length}
+use Rattle.std.specs.Prelude.{ℕ, ◌==◌, ◌&&◌, nat_lt, not, Bool, true, false, List, length, is_none, Result, Ok, Err}
 use Rattle.std.specs.List.{list_all}
 use Rattle.sk_base.specs.declared.flow.FlowSort.{FlowSort}
 use Rattle.sk_base.specs.declared.flow.FlowSort.TheVariants.{Int}
@@ -13,6 +13,10 @@ use Rattle.sk_def.specs.declared.def.Con.{Con}
 use Rattle.sk_def.specs.declared.def.Hook.{Hook}
 use Rattle.sk_def.specs.declared.def.Rule.{Rule}
 use Rattle.sk_def.specs.declared.def.Def.{Def}
+use Rattle.sk_deftext.specs.declared.source.Source.{Source}
+use Rattle.sk_deftext.specs.declared.fault.DefFault.{DefFault}
+use Rattle.sk_deftext.specs.Texts.{read_definition}
+use Rattle.sk_sort.specs.Definition.{first_fault}
 
 -- ASCII text without comments
 abbrev pub is_plain : List ℕ → Bool
@@ -52,5 +56,11 @@ is_small_rule rule = list_all is_small_bone rule.bones
 unfoldable pub is_small : Def → Bool
 is_small def = length def.sorts == 1 && list_all is_small_con def.cons && list_all is_small_hook def.hooks && list_all is_small_rule def.rules
 
-abbrev pub is_smallest : List ℕ → Bool
-is_smallest text = is_plain text
+-- such a definition was read, and is well sorted
+abbrev pub is_small_source : Result Source DefFault → Bool
+is_small_source (Ok source) = is_small source.def && is_none (first_fault source.def)
+is_small_source (Err fault) = false
+
+-- the text of one of the smallest definitions
+unfoldable pub is_smallest : List ℕ → Bool
+is_smallest text = is_plain text && is_small_source (read_definition text)

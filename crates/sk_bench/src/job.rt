@@ -2,6 +2,7 @@
 ghost use Rattle.std.specs.Prelude.{◌<◌, ◌-◌, ◌^◌, length, IfSome};
 
 use crate::program::{Leaf, Node};
+use crate::results::Call;
 use crate::smallest::is_plain;
 use sk_base::{NoMemory, Stack};
 use sk_def::{ArgSort, ConId, Def, HookId};
@@ -11,13 +12,11 @@ use std::alloc::{AllocFailed, Global};
 /// The greatest number of points of a program.
 const MOST_POINTS: usize = 4_096;
 
-/// A program, and the hook, the point and the inputs of its start line.
+/// A program in preorder, and the call of its start line.
 #[derive(Drop)]
 pub(crate) struct Job {
     pub(crate) nodes: Vec<Node>,
-    pub(crate) hook: HookId,
-    pub(crate) point: u16,
-    pub(crate) inputs: Vec<i64>,
+    pub(crate) start: Call,
 }
 
 /// What is expected next.
@@ -99,9 +98,11 @@ impl<'a> Reader<'a> {
             def,
             job: Job {
                 nodes: Vec::new(alloc),
-                hook: HookId(0),
-                point: 0,
-                inputs: Vec::new(alloc),
+                start: Call {
+                    hook: HookId(0),
+                    point: 0,
+                    inputs: Vec::new(alloc),
+                },
             },
             expected: Stack::new(alloc),
         };
@@ -148,11 +149,11 @@ impl<'a> Reader<'a> {
             Expected::Argument(point, sort) => self.argument(lexeme, point, sort),
             Expected::StartHook => self.start_hook(lexeme),
             Expected::StartPoint => {
-                self.job.point = self.point(lexeme)?;
+                self.job.start.point = self.point(lexeme)?;
                 Ok(())
             }
             Expected::Input => {
-                self.job.inputs.push(number(lexeme)?)?;
+                self.job.start.inputs.push(number(lexeme)?)?;
                 Ok(())
             }
             Expected::Covers => self.cover(lexeme),
@@ -223,7 +224,7 @@ impl<'a> Reader<'a> {
         let Some(hook) = hook_named(def, lexeme) else {
             return Err(Refusal::Later);
         };
-        self.job.hook = hook;
+        self.job.start.hook = hook;
         self.expected.push(Expected::Close)?;
         for place in (0..def.hooks.get(usize::from(hook.0)).inputs.len()).rev() {
             self.expected.push(Expected::Input)?;

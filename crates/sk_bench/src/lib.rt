@@ -2,6 +2,7 @@
 //! reads, each as the ones before say, and what it then writes. The program `skel` stands on it.
 #![tactic(auto)]
 
+mod fits;
 mod job;
 mod kinds;
 mod print;
@@ -18,3 +19,6 @@ pub use kinds::Command;
 pub use status::Status;
 pub use top::workbench;
 pub use words::command;
+
+#[cfg(test)]
+mod tests;

@@ -29,13 +29,13 @@ pub(crate) fn put_results(
 fn put_line(out: &mut Vec<u8>, def: &Def, line: &Line) -> Result<(), NoMemory> {
     put_number(out, i64::from(line.depth))?;
     out.push(b' ')?;
-    if let Some(hook) = def.hooks.as_slice().get(usize::from(line.hook.0)) {
+    if let Some(hook) = def.hooks.as_slice().get(usize::from(line.call.hook.0)) {
         out.extend_from_slice(hook.name.as_bytes())?;
     }
     out.push(b' ')?;
-    put_number(out, i64::from(line.point))?;
+    put_number(out, i64::from(line.call.point))?;
     out.push(b' ')?;
-    put_numbers(out, line.inputs.as_slice())?;
+    put_numbers(out, line.call.inputs.as_slice())?;
     out.extend_from_slice(b" -> ")?;
     put_numbers(out, line.outputs.as_slice())?;
     out.push(b'\n')?;

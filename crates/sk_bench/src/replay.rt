@@ -7,7 +7,7 @@ ghost use Rattle.sk_def.specs.Signatures.{results};
 ghost use Rattle.sk_def.specs.declared.sorts.VarSort.TheVariants.{Flow};
 ghost use Rattle.sk_bench.specs.Replay.{cell_sorts};
 
-use crate::results::Answer;
+use crate::results::{Answer, Call};
 use sk_base::{FlowSort, Seq};
 use sk_def::{Def, Filter, HookId, SortId, Target, Var, VarList};
 use sk_walk::Interp;
@@ -63,7 +63,7 @@ impl World {
 /// Why a walk stops: a call whose derivation wasn't handed in, no result, or want of memory.
 #[derive(Drop)]
 pub(crate) enum Ask {
-    Call(HookId, u16, Vec<i64>),
+    Call(Call),
     Nothing,
     NoMemory,
 }
@@ -221,7 +221,11 @@ impl<'a> Replay<'a> {
             },
         };
         match world.numbers(self.alloc, args.as_slice()) {
-            Ok(inputs) => Ask::Call(hook, point, inputs),
+            Ok(inputs) => Ask::Call(Call {
+                hook,
+                point,
+                inputs,
+            }),
             Err(ask) => ask,
         }
     }

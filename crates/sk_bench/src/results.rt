@@ -1,8 +1,6 @@
-//! The result of a hook at a point, with its derivation, by recursion on the depth.
-ghost use Rattle.std.specs.Prelude.{◌≡◌, length};
-
-use crate::job::Job;
-use crate::program::Leaf;
+//! The result of a hook at a point, with its derivation, by recursion on the depth. In the smallest definitions there is at
+//! most one.
+use crate::program::{Leaf, Node};
 use crate::replay::{Ask, Cell, Replay, World};
 use sk_base::{FlowSort, NoMemory, Seq};
 use sk_def::{Def, HookId, Rule, SortId, bones_fit};
@@ -15,91 +13,99 @@ const NESTING: usize = 8;
 /// The greatest number of bones of a rule.
 const MOST_BONES: usize = 64;
 
+/// A hook, a point and inputs.
+#[derive(Drop)]
+pub(crate) struct Call {
+    pub(crate) hook: HookId,
+    pub(crate) point: u16,
+    pub(crate) inputs: Vec<i64>,
+}
+
 /// A node of a derivation, at its depth.
 #[derive(Drop)]
 pub(crate) struct Line {
     pub(crate) depth: u32,
-    pub(crate) hook: HookId,
-    pub(crate) point: u16,
-    pub(crate) inputs: Vec<i64>,
+    pub(crate) call: Call,
     pub(crate) outputs: Vec<i64>,
 }
 
-/// What a hook gives, and the nodes of its derivation in preorder.
+/// What a call gives, and the nodes of its derivation in preorder.
 #[derive(Drop)]
 pub(crate) struct Answer {
     pub(crate) outputs: Vec<i64>,
     pub(crate) lines: Vec<Line>,
 }
 
-/// The result with a derivation of at most so great a height, if there is one.
-pub(crate) fn result(
-    alloc: Global,
-    def: &Def,
-    job: &Job,
-    depth: u32,
-    hook: HookId,
-    point: u16,
-    inputs: Vec<i64>,
-) -> Result<Option<Answer>, NoMemory> {
-    if depth == 0 {
-        return Ok(None);
-    }
-    let Some(node) = job.nodes.get(usize::from(point)) else {
-        return Ok(None);
-    };
-    let Some(rule) = def.rule_of(hook, node.con) else {
-        return Ok(None);
-    };
-    let own = own_sort(def, rule);
-    let mut handed = Vec::new(alloc);
-    for _ in 0..=MOST_BONES {
-        let mut replay = Replay {
-            alloc,
-            def,
-            own,
-            point,
-            handed: handed.as_slice(),
-            used: 0,
+/// What results are sought in: a definition, and a program in preorder.
+#[derive(Clone, Copy)]
+pub(crate) struct Search<'d, 'n> {
+    pub(crate) alloc: Global,
+    pub(crate) def: &'d Def,
+    pub(crate) nodes: &'n [Node],
+}
+
+impl Search<'_, '_> {
+    /// The answer of a call with a derivation of at most so great a height, if there is one.
+    pub(crate) fn result(&self, depth: u32, call: Call) -> Result<Option<Answer>, NoMemory> {
+        if depth == 0 {
+            return Ok(None);
+        }
+        let Some(node) = self.nodes.get(usize::from(call.point)) else {
+            return Ok(None);
         };
-        let world = first_world(alloc, own, rule, node.args.as_slice(), inputs.as_slice())?;
-        match walk_rule(alloc, &mut replay, rule, world) {
-            Ok(world) => return finished(alloc, rule, point, inputs, handed, world),
-            Err(Ask::Nothing) => return Ok(None),
-            Err(Ask::NoMemory) => return Err(NoMemory),
-            Err(Ask::Call(hook, point, inputs)) => {
-                match result(alloc, def, job, depth - 1, hook, point, inputs)? {
+        let Some(rule) = self.def.rule_of(call.hook, node.con) else {
+            return Ok(None);
+        };
+        let mut handed = Vec::new(self.alloc);
+        for _ in 0..=MOST_BONES {
+            match self.walk(rule, node, &call, handed.as_slice()) {
+                Ok(world) => return finished(self.alloc, rule, call, handed, &world),
+                Err(Ask::Nothing) => return Ok(None),
+                Err(Ask::NoMemory) => return Err(NoMemory),
+                Err(Ask::Call(inner)) => match self.result(depth - 1, inner)? {
                     Some(answer) => handed.push(answer)?,
                     None => return Ok(None),
-                }
+                },
             }
         }
+        Ok(None)
     }
-    Ok(None)
-}
 
-/// The sort of the rule's constructor.
-fn own_sort(def: &Def, rule: &Rule) -> SortId {
-    match def.cons.as_slice().get(usize::from(rule.con.0)) {
-        Some(con) => con.sort,
-        None => SortId(0),
+    /// Walks the bones of a rule at a node, where they lie as they must.
+    fn walk(&self, rule: &Rule, node: &Node, call: &Call, handed: &[Answer]) -> Result<World, Ask> {
+        let own = self.sort_of(node);
+        let args = node.args.as_slice();
+        let Ok(world) = first_world(self.alloc, own, rule, args, call.inputs.as_slice()) else {
+            return Err(Ask::NoMemory);
+        };
+        let bones = &rule.bones;
+        let hooks = self.def.hooks.len();
+        if bones.len() > MOST_BONES
+            || !bones_fit(hooks, world.cells.len(), NESTING, bones.as_slice())
+        {
+            return Err(Ask::Nothing);
+        }
+        let mut replay = Replay {
+            alloc: self.alloc,
+            def: self.def,
+            own,
+            point: call.point,
+            handed,
+            used: 0,
+        };
+        match walk(self.alloc, &mut replay, bones, world) {
+            Ok(world) => Ok(world),
+            Err(WalkStop::Stop(ask)) => Err(ask),
+            Err(WalkStop::NoMemory) => Err(Ask::NoMemory),
+        }
     }
-}
 
-/// Walks the bones of a rule, where they lie as they must.
-fn walk_rule(alloc: Global, replay: &mut Replay, rule: &Rule, world: World) -> Result<World, Ask> {
-    let bones = &rule.bones;
-    if bones.len() > MOST_BONES {
-        return Err(Ask::Nothing);
-    }
-    let hooks = replay.def.hooks.len();
-    if !bones_fit(hooks, world.cells.len(), NESTING, bones.as_slice()) {
-        return Err(Ask::Nothing);
-    }
-    match walk(alloc, replay, bones, world) {
-        Ok(world) => Ok(world),
-        Err(WalkStop::Stop(ask)) => Err(ask),
-        Err(WalkStop::NoMemory) => Err(Ask::NoMemory),
+    /// The sort of a node's constructor.
+    fn sort_of(&self, node: &Node) -> SortId {
+        match self.def.cons.as_slice().get(usize::from(node.con.0)) {
+            Some(con) => con.sort,
+            None => SortId(0),
+        }
     }
 }
 
@@ -123,22 +129,19 @@ fn first_world(
         cells.put(usize::from(variable.0), Some(cell));
     }
     for (variable, value) in rule.inputs.as_slice().iter().zip(inputs.iter()) {
-        cells.put(
-            usize::from(variable.0),
-            Some(Cell::Flow(FlowSort::Int, *value)),
-        );
+        let cell = Cell::Flow(FlowSort::Int, *value);
+        cells.put(usize::from(variable.0), Some(cell));
     }
     Ok(World { cells })
 }
 
-/// The answer of a rule, after the last of its bones.
+/// The answer of a call, after the last bone of its rule.
 fn finished(
     alloc: Global,
     rule: &Rule,
-    point: u16,
-    inputs: Vec<i64>,
+    call: Call,
     handed: Vec<Answer>,
-    world: World,
+    world: &World,
 ) -> Result<Option<Answer>, NoMemory> {
     let outputs = match world.numbers(alloc, rule.outputs.as_slice()) {
         Ok(outputs) => outputs,
@@ -148,18 +151,23 @@ fn finished(
     let mut lines = Vec::new(alloc);
     lines.push(Line {
         depth: 0,
-        hook: rule.hook,
-        point,
-        inputs,
+        call,
         outputs: Vec::from_slice(alloc, outputs.as_slice())?,
     })?;
     for answer in handed {
-        for line in answer.lines {
-            lines.push(Line {
-                depth: line.depth.saturating_add(1),
-                ..line
-            })?;
-        }
+        put_below(&mut lines, answer)?;
     }
     Ok(Some(Answer { outputs, lines }))
+}
+
+/// Appends the nodes of a derivation one level deeper.
+fn put_below(lines: &mut Vec<Line>, answer: Answer) -> Result<(), NoMemory> {
+    for line in answer.lines {
+        lines.push(Line {
+            depth: line.depth.saturating_add(1),
+            call: line.call,
+            outputs: line.outputs,
+        })?;
+    }
+    Ok(())
 }

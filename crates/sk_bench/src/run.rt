@@ -1,13 +1,17 @@
 //! The command `run`.
-ghost use Rattle.std.specs.Prelude.{◌≡◌, codes};
+ghost use Rattle.std.specs.Prelude.{◌≡◌, ◌≤◌, length, codes};
 ghost use Rattle.sk_base.specs.Causes.{NeverFalls};
 ghost use Rattle.sk_bench.specs.Plan.{Write, Read, Unstated};
 ghost use Rattle.sk_bench.specs.Commands.{run_on};
 ghost use Rattle.sk_bench.specs.Following.{Follows, Prepares};
 
-use crate::smallest::is_plain;
+use crate::job::{Job, read_job};
+use crate::print::put_results;
+use crate::results::Search;
+use crate::smallest::read_smallest;
 use crate::status::{Ending, Output, Stop};
 use sk_base::{Files, read_file};
+use sk_def::Def;
 use std::alloc::Global;
 
 /// The greatest number of bytes of a definition or a job.
@@ -37,25 +41,53 @@ fn run_definition<F: Files>(
     job: &str,
     depth: u32,
 ) -> Result<Output, Stop>
+    requires { length text.now ≤ LIMIT }
     ensures follows { Follows (F.folder files.old) (F.selection files.old) (F.selection files.new) (F.faults files.old) (F.faults files.new) (run_on job.now text.now) result }
     ensures folder { F.folder files.new ≡ F.folder files.old }
     ensures count { NeverFalls (F.faults files.old) (F.faults files.new) }
 {
-    if is_plain(text) {
-        run_job(alloc, files, job, depth)
-    } else {
-        refuse_definition(alloc)
+    match read_smallest(alloc, text)? {
+        Some(checked) => run_job(alloc, files, checked.def(), job, depth),
+        None => refuse_definition(alloc),
     }
 }
 
 /// Reads the job, and makes what is written.
-fn run_job<F: Files>(alloc: Global, files: &mut F, job: &str, depth: u32) -> Result<Output, Stop>
+fn run_job<F: Files>(
+    alloc: Global,
+    files: &mut F,
+    def: &Def,
+    job: &str,
+    depth: u32,
+) -> Result<Output, Stop>
     ensures follows { Follows (F.folder files.old) (F.selection files.old) (F.selection files.new) (F.faults files.old) (F.faults files.new) (Read job.now LIMIT (λ _. Unstated)) result }
     ensures folder { F.folder files.new ≡ F.folder files.old }
     ensures count { NeverFalls (F.faults files.old) (F.faults files.new) }
 {
     let text = read_file(alloc, files, job, LIMIT)?;
-    refuse_job(alloc)
+    run_text(alloc, def, text.as_slice(), depth)
+}
+
+/// Makes what is written of the text of the job.
+fn run_text(alloc: Global, def: &Def, text: &[u8], depth: u32) -> Result<Output, Stop>
+    requires { length text.now ≤ LIMIT }
+    ensures { Prepares Unstated result }
+{
+    let Some(Job { nodes, start }) = read_job(alloc, def, text)? else {
+        return refuse_job(alloc);
+    };
+    let search = Search {
+        alloc,
+        def,
+        nodes: nodes.as_slice(),
+    };
+    let answer = search.result(depth, start)?;
+    let mut text = Vec::new(alloc);
+    put_results(&mut text, def, &answer)?;
+    Ok(Output {
+        ending: Ending::Done,
+        text,
+    })
 }
 
 /// The line for a definition of a form that isn't built yet.

@@ -1,10 +1,49 @@
-//! The forms of the smallest definitions.
-ghost use Rattle.std.specs.Prelude.{◌≡◌};
+//! The smallest definitions: those with the forms that are built so far.
+ghost use Rattle.std.specs.Prelude.{◌≡◌, ◌-◌, ◌^◌, ◌<◌, ◌&&◌, length, is_none, is_some, IfOk};
 ghost use Rattle.std.specs.List.{list_all};
-ghost use Rattle.sk_bench.specs.Smallest.{is_plain, is_int, is_small_argument, is_small_bone, is_small_con, is_small_filter, is_small_hook, is_small_rule, is_small};
+ghost use Rattle.sk_bench.specs.Smallest.{is_plain, is_int, is_small_argument, is_small_bone, is_small_con, is_small_filter, is_small_hook, is_small_rule, is_small, is_smallest};
+ghost use Rattle.sk_sort.specs.Definition.{first_fault};
 
-use sk_base::FlowSort;
+use crate::fits::definition_fits;
+use sk_base::{FlowSort, NoMemory};
 use sk_def::{ArgSort, Bone, Con, Def, Filter, Hook, Rule};
+use sk_deftext::{DefFault, read_def};
+use sk_sort::{Checked, SortFault, check_sorts};
+use std::alloc::Global;
+
+/// Reads a text as one of the smallest definitions, none where it isn't one.
+#[tactic(auto, unfolding(crate::specs::Smallest::is_smallest))]
+pub(crate) fn read_smallest(alloc: Global, text: &[u8]) -> Result<Option<Checked>, NoMemory>
+    requires { length text.now < 2 ^ 32 - 1 }
+    ensures { IfOk result (λ found. is_some found ≡ is_smallest text.now) }
+{
+    if !is_plain(text) {
+        return Ok(None);
+    }
+    match read_def(alloc, text) {
+        Ok(source) => check_small(alloc, source.def),
+        Err(DefFault::NoMemory) => Err(NoMemory),
+        Err(_) => Ok(None),
+    }
+}
+
+/// Checks a definition that was read, none where it isn't one of the smallest.
+fn check_small(alloc: Global, def: Def) -> Result<Option<Checked>, NoMemory>
+    ensures { IfOk result (λ found. is_some found ≡ (is_small def && is_none (first_fault def))) }
+{
+    if !is_small(&def) {
+        return Ok(None);
+    }
+    // What was read fits always, so this answer never comes.
+    if !definition_fits(&def) {
+        return Err(NoMemory);
+    }
+    match check_sorts(alloc, def) {
+        Ok(checked) => Ok(Some(checked)),
+        Err(SortFault::NoMemory) => Err(NoMemory),
+        Err(_) => Ok(None),
+    }
+}
 
 /// Whether a text is ASCII without comments.
 pub(crate) fn is_plain(text: &[u8]) -> bool

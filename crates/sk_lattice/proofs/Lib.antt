@@ -2,6 +2,7 @@ pub mod Antisymmetry
 pub mod Falling
 pub mod Kept
 pub mod Meets
+pub mod PaddingLemmas
 pub mod Parts
 pub mod Pushes
 pub mod SortLemmas

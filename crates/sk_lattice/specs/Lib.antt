@@ -6,6 +6,7 @@ pub mod Order
 pub mod Empty
 pub mod Covers
 pub mod Merge
+pub mod Padding
 pub mod Laws
 pub mod Ranks
 pub mod Shapes

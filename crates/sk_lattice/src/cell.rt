@@ -1,6 +1,6 @@
 //! Abstract cells, one for each name of a store.
 
-ghost use Rattle.std.specs.Prelude.{◌≡◌, length, IfOk};
+ghost use Rattle.std.specs.Prelude.{◌≡◌, length, IfOk, OnOk, OnErr};
 ghost use Rattle.std.specs.List.{list_any};
 ghost use lib.Pointwise.{pointwise};
 ghost use Rattle.sk_base.specs.Lists.{zip_with};
@@ -8,9 +8,11 @@ ghost use Rattle.sk_lattice.specs.Covers.{cell_covers};
 ghost use Rattle.sk_lattice.specs.Empty.{cell_is_empty};
 ghost use Rattle.sk_lattice.specs.Merge.{way_of, cell_merge};
 ghost use Rattle.sk_lattice.specs.Order.{cell_leq};
+ghost use Rattle.sk_lattice.specs.Padding.{unset_cell, padded_cells, IsPartlyPadded};
 
 use crate::domain::NumDom;
 use crate::merge::Merge;
+use crate::truth::AbsBool;
 use crate::value::AbsVal;
 use sk_base::{NoMemory, Seq};
 use sk_value::{Store, Value};
@@ -27,6 +29,22 @@ pub struct AbsCell<D> {
 pub type CellList<D> = Seq<AbsCell<D>>;
 
 impl<D: NumDom> AbsCell<D> {
+    /// The cell of a name that is surely unset.
+    pub fn unset() -> Self
+        ensures { result ≡ unset_cell D.domain }
+    {
+        AbsCell {
+            val: AbsVal {
+                num: D::empty(),
+                truth: AbsBool {
+                    has_true: false,
+                    has_false: false,
+                },
+            },
+            unset: true,
+        }
+    }
+
     /// Part by part.
     pub fn leq(&self, other: &Self) -> bool
         ensures { result ≡ cell_leq D.domain self.now other.now }
@@ -110,4 +128,15 @@ pub(crate) fn merge_cells<D: NumDom>(
         merged.push(cells.get(at).merge(merge, others.get(at)))?;
     }
     Ok(merged)
+}
+
+/// The store gains cells of unset names until it has one for each name.
+pub(crate) fn pad_cells<D: NumDom>(cells: &mut CellList<D>, names: usize) -> Result<(), NoMemory>
+    ensures ok { OnOk result (cells.new ≡ padded_cells D.domain names cells.old) }
+    ensures err { OnErr result (IsPartlyPadded D.domain names cells.old cells.new) }
+{
+    for _name in cells.len()..names {
+        cells.push(AbsCell::unset())?;
+    }
+    Ok(())
 }

@@ -1,11 +1,13 @@
 //! Abstract flows.
 
-ghost use Rattle.std.specs.Prelude.{◌≡◌, IsTrue, IfOk};
+ghost use Rattle.std.specs.Prelude.{◌≡◌, IsTrue, IfOk, OnOk, OnErr};
 ghost use Rattle.sk_lattice.specs.Covers.{flow_covers};
 ghost use Rattle.sk_lattice.specs.Empty.{flow_is_empty};
 ghost use Rattle.sk_lattice.specs.Merge.{way_of, flow_merge};
 ghost use Rattle.sk_lattice.specs.Order.{flow_leq, flows_fit};
+ghost use Rattle.sk_lattice.specs.Padding.{padded_flow, FlowIsPartlyPadded};
 
+use crate::cell::pad_cells;
 use crate::domain::NumDom;
 use crate::merge::Merge;
 use crate::store::AbsStore;
@@ -74,6 +76,18 @@ impl<D: NumDom> AbsFlow<D> {
             AbsFlow::Val(a) => AbsFlow::Val(*a),
             AbsFlow::Store(a) => AbsFlow::Store(a.copy(alloc)?),
         })
+    }
+
+    /// A store with fewer cells than names gains cells of unset names until it has so many; any other flow stays. After
+    /// a refusal the store has its old cells and some of the new ones.
+    pub fn pad(&mut self, names: usize) -> Result<(), NoMemory>
+        ensures ok { OnOk result (self.new ≡ padded_flow D.domain names self.old) }
+        ensures err { OnErr result (FlowIsPartlyPadded D.domain names self.old self.new) }
+    {
+        match self {
+            AbsFlow::Store(AbsStore::Cells(cells)) => pad_cells(cells, names),
+            _ => Ok(()),
+        }
     }
 
     pub(crate) fn merge(&self, alloc: Global, merge: Merge, other: &Self) -> Result<Self, NoMemory>

@@ -1,12 +1,13 @@
 //! Abstract tuples.
 
-ghost use Rattle.std.specs.Prelude.{◌≡◌, ◌<◌, [], ◌∷◌, ◌++◌, length, slice_get, Some, IsTrue, IfOk, OnOk, OnErr};
-ghost use Rattle.std.specs.List.{list_any};
+ghost use Rattle.std.specs.Prelude.{◌≡◌, ◌<◌, [], ◌∷◌, ◌++◌, length, slice_get, Some, IsTrue, IfOk, OnOk, OnErr, map};
+ghost use Rattle.std.specs.List.{AllZip, list_any};
 ghost use lib.Pointwise.{pointwise};
 ghost use Rattle.sk_lattice.specs.Covers.{flow_covers, tuple_covers};
 ghost use Rattle.sk_lattice.specs.Empty.{IsTuple, flow_is_empty, flow_is_proper};
 ghost use Rattle.sk_lattice.specs.Merge.{way_of, tuple_merge, tuple_meet, Join, Widen};
 ghost use Rattle.sk_lattice.specs.Order.{flow_leq, tuple_leq, tuples_fit};
+ghost use Rattle.sk_lattice.specs.Padding.{padded_flow, FlowIsPartlyPadded};
 
 use crate::domain::NumDom;
 use crate::flow::AbsFlow;
@@ -84,6 +85,15 @@ impl<D: NumDom> AbsTuple<D> {
         Ok(AbsTuple { flows })
     }
 
+    /// Each store with fewer cells than names gains cells of unset names until it has so many; all else stays. After a
+    /// refusal each store has its old cells and some of the new ones.
+    pub fn pad(&mut self, names: usize) -> Result<(), NoMemory>
+        ensures ok { OnOk result (self.new ≡ map (padded_flow D.domain names) self.old) }
+        ensures err { OnErr result (AllZip (FlowIsPartlyPadded D.domain names) self.old self.new) }
+    {
+        pad_flows(&mut self.flows, names)
+    }
+
     /// Flow by flow.
     pub fn leq(&self, other: &Self) -> bool
         ensures { result ≡ tuple_leq D.domain self.now other.now }
@@ -131,6 +141,16 @@ impl<D: NumDom> AbsTuple<D> {
             Ok(Some(AbsTuple { flows }))
         }
     }
+}
+
+fn pad_flows<D: NumDom>(flows: &mut [AbsFlow<D>], names: usize) -> Result<(), NoMemory>
+    ensures ok { OnOk result (flows.new ≡ map (padded_flow D.domain names) flows.old) }
+    ensures err { OnErr result (AllZip (FlowIsPartlyPadded D.domain names) flows.old flows.new) }
+{
+    for flow in flows {
+        flow.pad(names)?;
+    }
+    Ok(())
 }
 
 fn flows_leq<D: NumDom>(flows: &[AbsFlow<D>], others: &[AbsFlow<D>]) -> bool

@@ -2,7 +2,8 @@ pub mod FirstError
 pub mod Passes
 pub mod Walked
 pub mod RuleParts
-pub mod Sorted
+pub mod RulesSorted
+pub mod Placed
 pub mod RulesSoFar
 pub mod WellSorted
 pub mod Vectors

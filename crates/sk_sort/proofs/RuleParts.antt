@@ -1,11 +1,9 @@
 -- What a rule's parts say together.
-use Rattle.std.proofs.Common.{◌≡◌, ℕ, ◌+◌, ◌≤◌, List, [], ◌∷◌, ◌++◌, map, length, Option, Some, None, Result, Ok, Err, refl, sym, ap, subst, ◌∙◌, arith, slice_get}
-use Rattle.std.specs.Prelude.{OnOk}
+use Rattle.std.proofs.Common.{◌≡◌, ℕ, ◌+◌, ◌≤◌, List, [], ◌∷◌, ◌++◌, length, Option, Some, None, Result, Ok, Err, refl, sym, ap, subst, ◌∙◌, arith, slice_get}
 use Rattle.std.specs.Option.{option_or, option_map}
 use Rattle.std.proofs.lemmas.List.{length-map}
 use Rattle.sk_def.specs.declared.ids.Var.{Var}
 use Rattle.sk_def.specs.declared.sorts.VarSort.{VarSort}
-use Rattle.sk_def.specs.declared.sorts.VarSort.TheVariants.{Flow}
 use Rattle.sk_def.specs.declared.def.Def.{Def}
 use Rattle.sk_def.specs.declared.def.Rule.{Rule}
 use Rattle.sk_def.specs.declared.def.Hook.{Hook}
@@ -17,14 +15,10 @@ use Rattle.sk_walk.proofs.Checks.{length-define}
 use Rattle.sk_sort.specs.declared.error.SortError.{SortError}
 use Rattle.sk_sort.specs.declared.interp.SortStop.{SortStop}
 use Rattle.sk_sort.specs.declared.interp.SortInterp.{SortInterp}
-use Rattle.sk_sort.specs.Checks.{first_error, argument_checks}
 use Rattle.sk_sort.specs.Interp.{sort_meaning, answers_bone}
 use Rattle.sk_sort.specs.DefinedBefore.{sorts_after}
 use Rattle.sk_sort.specs.Parts.{Part, PartFault, fault_at, first_failing, bone_parts, AnswersParts}
-use Rattle.sk_sort.specs.Rules.{RuleIsSorted, nothing, header_sorts, header_checks, closing_checks, rule_parts, fault_of_rule, rule_fault}
-use Rattle.sk_walk.specs.Sorted.{Sorted}
-use Rattle.sk_sort.proofs.Sorted.{sorted}
-use Rattle.sk_sort.proofs.Passes.{count_passes, arguments_pass}
+use Rattle.sk_sort.specs.Rules.{nothing, header_sorts, header_checks, closing_checks, rule_parts, fault_of_rule, rule_fault}
 use Rattle.sk_sort.proofs.Walked.{walked, first_failing_append, bone_stops, bone_goes, parts_go, parts_stop}
 
 pub arguments_long : (rule : Rule) (g : Sorts) (vs : List Var) (ss : List (Option VarSort)) → g ≡ nothing rule → length (define g vs ss) ≡ length rule.vars
@@ -34,7 +28,7 @@ pub header_long : (rule : Rule) (hook : Hook) (con : Con) → length (header_sor
 header_long rule hook con =
     length-define _ rule.inputs _ ∙ arguments_long rule (nothing rule) rule.terms _ refl
 
-part_passes : (number : ℕ) (o : Option SortError) → option_or (option_map (fault_at number) o) None ≡ None → o ≡ None
+pub part_passes : (number : ℕ) (o : Option SortError) → option_or (option_map (fault_at number) o) None ≡ None → o ≡ None
 part_passes number None h = refl
 part_passes number (Some e) h = cc
 
@@ -90,23 +84,3 @@ module _ (d : Def) (earlier : List Rule) (rule : Rule) (hook : Hook) (con : Con)
         let P : Sorts → Type 0 = λ h. AnswersParts (first_failing (record { number = length rule.bones + 1; checks = closing_checks h rule hook } ∷ [])) tt answer in
         found answer (together (record { number = length rule.bones + 1; checks = closing_checks g rule hook } ∷ []) answer
         (parts_go _ _ tt answer b.0 (subst P b.1 q)))
-
-    pub closing_sorted : (end : Sorts) → Walks sort_meaning 1 rule.bones s start t (Ok end) → (answer : Result (Unit {0}) SortStop) →
-        AnswersParts (first_failing (record { number = length rule.bones + 1; checks = closing_checks end rule hook } ∷ [])) tt answer →
-        OnOk answer (RuleIsSorted d rule)
-    closing_sorted end p (Err e) q = tt
-    closing_sorted end p (Ok u) q =
-        let passes = part_passes (length rule.bones + 1) (first_error (closing_checks end rule hook)) q.0 in
-        let counted = count_passes (length rule.outputs) (length hook.outputs) (argument_checks end rule.outputs (map Flow hook.outputs)) passes in
-        let P : Def → Type 0 = λ x. Sorted x s.own 1 rule.bones start end in
-        let Q : SortId → Type 0 = λ x. Sorted d x 1 rule.bones start end in
-        let R : Sorts → Type 0 = λ g. Sorted d con.sort 1 rule.bones g end in
-        record {
-          hook = hook;
-          con = con;
-          hook_is = hook-is;
-          con_is = con-is;
-          after = end;
-          bones = subst R header.1 (subst Q own (subst P reads (sorted p).1));
-          outputs = arguments_pass end rule.outputs (map Flow hook.outputs) (counted.0 ∙ sym (length-map hook.outputs Flow)) counted.1;
-        }

@@ -61,25 +61,25 @@ parts_stop before later a b (Bad why at) p = rw p refl
 parts_stop before later a b NoMemory p = tt
 
 -- the first fault of placed bones
-abbrev fault_of : Def → SortId → List Placed → Option PartFault
+abbrev pub fault_of : Def → SortId → List Placed → Option PartFault
 fault_of d own ps = first_failing (map (bone_part d own) ps)
 
-fault_append : (d : Def) (own : SortId) (ps qs : List Placed) → fault_of d own (ps ++ qs) ≡ option_or (fault_of d own ps) (fault_of d own qs)
+pub fault_append : (d : Def) (own : SortId) (ps qs : List Placed) → fault_of d own (ps ++ qs) ≡ option_or (fault_of d own ps) (fault_of d own qs)
 fault_append d own ps qs = ap first_failing (map-append (bone_part d own) ps qs) ∙ first_failing_append (map (bone_part d own) ps) (map (bone_part d own) qs)
 
-shorter-drop : (n k : ℕ) (bones : List Bone) → length bones ≤ n → length (drop k bones) ≤ n
+pub shorter-drop : (n k : ℕ) (bones : List Bone) → length bones ≤ n → length (drop k bones) ≤ n
 shorter-drop n k bones h = omega (arith, h, length-drop k bones)
 
-shorter-branch : (n k : ℕ) (counts : List ℕ) (bones : List Bone) → length bones ≤ n → length (branch counts k bones) ≤ n
+pub shorter-branch : (n k : ℕ) (counts : List ℕ) (bones : List Bone) → length bones ≤ n → length (branch counts k bones) ≤ n
 shorter-branch n k counts bones h =
     let later = drop (sum (take k counts)) bones in
     omega (arith, h, length-take (slice_index counts k) later, length-drop (sum (take k counts)) bones)
 
 -- the bones of the branches at these places, and what is defined at their ends
-abbrev inside : Def → ℕ → ℕ → Sorts → List ℕ → List Bone → List ℕ → List Placed
+abbrev pub inside : Def → ℕ → ℕ → Sorts → List ℕ → List Bone → List ℕ → List Placed
 inside d n bone g counts bones places = flat_map (λ k. placed d n (first_of_branch bone counts k) g (branch counts k bones)) places
 
-abbrev ends_of : Def → ℕ → Sorts → List ℕ → List Bone → List ℕ → List Sorts
+abbrev pub ends_of : Def → ℕ → Sorts → List ℕ → List Bone → List ℕ → List Sorts
 ends_of d n g counts bones places = map (λ k. sorts_after d n g (branch counts k bones)) places
 
 joined : {A : Type 0} (d : Def) (own : SortId) (ps qs : List Placed) (after : A) (answer : Result A SortStop) →
@@ -121,7 +121,7 @@ moved_branches s t g n bone counts bones places u answer e p =
     subst P e p
 
 -- what follows the branches of a branch bone: the bone itself, and the rest of its list
-abbrev after_inside : Def → ℕ → ℕ → Sorts → List ℕ → List Var → List Bone → List Placed
+abbrev pub after_inside : Def → ℕ → ℕ → Sorts → List ℕ → List Var → List Bone → List Placed
 after_inside d n first g counts exports rest =
     let ends = ends_of d n g counts rest (branch_places 0 counts) in
     record { number = first; before = g; bone = Either counts exports; ends = ends }

@@ -20,14 +20,14 @@ use Rattle.sk_sort.specs.Rules.{rule_fault}
 use Rattle.sk_sort.specs.Definition.{bad_rule, missing_constructor, missing_rule, checked_fault, first_fault, IsWellSorted}
 
 -- neither of two is there
-both_none : {A B : Type 0} (f : A → B) (a : Option A) (b : Option B) → option_or (option_map f a) b ≡ None → (a ≡ None) × (b ≡ None)
+pub both_none : {A B : Type 0} (f : A → B) (a : Option A) (b : Option B) → option_or (option_map f a) b ≡ None → (a ≡ None) × (b ≡ None)
 both_none f None b h = (refl, h)
 both_none f (Some x) b h = cc
 
 none_both : {A B : Type 0} (f : A → B) (a : Option A) (b : Option B) → a ≡ None → b ≡ None → option_or (option_map f a) b ≡ None
 none_both f a b p q = rw (p, q) refl
 
-none_none : {A : Type 0} (a b : Option A) → option_or a b ≡ None → (a ≡ None) × (b ≡ None)
+pub none_none : {A : Type 0} (a b : Option A) → option_or a b ≡ None → (a ≡ None) × (b ≡ None)
 none_none None b h = (refl, h)
 none_none (Some x) b h = cc
 

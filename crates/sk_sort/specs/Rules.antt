@@ -1,6 +1,8 @@
 -- The parts of a rule, and the first fault of a definition.
-use Rattle.std.specs.Prelude.{◌≡◌, ◌+◌, not, ◌==◌, List, [], ◌∷◌, ◌++◌, length, map, Option, Some, None, Result, slice_get}
-use Rattle.std.specs.List.{list_any}
+use Rattle.std.specs.Prelude.{◌≡◌, ℕ, ◌+◌, not, ◌==◌, find, List, [], ◌∷◌, ◌++◌, length, map, Option, Some, None, Result, slice_get}
+use Rattle.std.specs.List.{list_any, enumerate_from}
+use Rattle.std.specs.List.Sorted.{IsPermutation}
+use Rattle.std.specs.Option.{option_map}
 use Rattle.sk_base.specs.declared.flow.FlowSort.{FlowSort}
 use Rattle.sk_def.specs.declared.sorts.ArgSort.{ArgSort}
 use Rattle.sk_def.specs.declared.sorts.ArgSort.TheVariants as arg
@@ -15,7 +17,7 @@ use Rattle.sk_def.specs.Rules.{is_rule_for}
 use Rattle.sk_walk.specs.Sorted.{Sorted}
 use Rattle.sk_sort.specs.declared.error.SortError.TheVariants.{WrongSort, DuplicateRule}
 use Rattle.sk_sort.specs.Checks.{Check, check, count_check, argument_checks, new_checks}
-use Rattle.sk_sort.specs.DefinedBefore.{sorts_after}
+use Rattle.sk_sort.specs.DefinedBefore.{sorts_after, Placed, placed}
 use Rattle.sk_sort.specs.declared.interp.SortStop.{SortStop}
 use Rattle.sk_sort.specs.Interp.{answers_bone}
 use Rattle.sk_sort.specs.Parts.{Part, PartFault, first_failing, bone_parts}
@@ -45,6 +47,20 @@ header_checks earlier rule hook con =
 -- the closing outputs, from the sorts after the bones
 abbrev pub closing_checks : Sorts → Rule → Hook → List Check
 closing_checks g rule hook = count_check (length rule.outputs) (length hook.outputs) ∷ argument_checks g rule.outputs (map Flow hook.outputs)
+
+-- the bones of a rule in the order of their checks, each with what is defined before it
+abbrev pub placed_bones : Def → Rule → Hook → Con → List Placed
+placed_bones d rule hook con = placed d (length rule.bones) 1 (header_sorts rule hook con) rule.bones
+
+-- what is defined before the bone of this number
+abbrev pub defined_before : Def → Rule → Hook → Con → ℕ → Option Sorts
+defined_before d rule hook con number =
+    option_map (λ (p : Placed). p.before) (find (λ (p : Placed). p.number == number) (placed_bones d rule hook con))
+
+-- each bone of the rule's list is placed just once, and with its number
+abbrev pub BonesArePlaced : Def → Rule → Hook → Con → Type 0
+BonesArePlaced d rule hook con =
+    IsPermutation (map (λ (p : Placed). (p.number, p.bone)) (placed_bones d rule hook con)) (enumerate_from 1 rule.bones)
 
 -- the parts of a rule: the header, the bones, the closing
 abbrev pub rule_parts : Def → List Rule → Rule → Hook → Con → List Part

@@ -1,9 +1,8 @@
 //! The sort check of a definition.
-ghost use Rattle.std.specs.Prelude.{◌≡◌, ◌≤◌, ◌↔◌, length, All, None, OnOk, IfOk};
+ghost use Rattle.std.specs.Prelude.{◌≡◌, ◌≤◌, length, IfOk};
 ghost use Rattle.sk_def.specs.declared.def.Def.{Def};
 ghost use Rattle.sk_def.specs.Fits.{DefinitionFits};
-ghost use Rattle.sk_sort.specs.Rules.{RuleIsSorted};
-ghost use Rattle.sk_sort.specs.Definition.{bad_rule, missing_constructor, missing_rule, checked_fault, first_fault, AnswersFault, DefinitionIsSorted, IsWellSorted};
+ghost use Rattle.sk_sort.specs.Definition.{bad_rule, missing_constructor, missing_rule, checked_fault, first_fault, AnswersFault, DefinitionIsSorted};
 
 use crate::interp::SortStop;
 use crate::rule::check_rule;
@@ -56,8 +55,7 @@ pub fn check_sorts(alloc: Global, def: Def) -> Result<Checked, SortFault>
 /// The checks of all rules, and then that none is missing.
 fn check_all(alloc: Global, def: &Def) -> Result<(), SortFault>
     requires { DefinitionFits def.now }
-    ensures answers { AnswersFault (checked_fault def.now) result }
-    ensures sorted { OnOk result (All (RuleIsSorted def.now) def.now.rules) }
+    ensures { AnswersFault (checked_fault def.now) result }
 {
     check_rules(alloc, def)?;
     check_complete(def)
@@ -66,8 +64,7 @@ fn check_all(alloc: Global, def: &Def) -> Result<(), SortFault>
 /// The checks of all rules.
 fn check_rules(alloc: Global, def: &Def) -> Result<(), SortFault>
     requires { DefinitionFits def.now }
-    ensures answers { AnswersFault (bad_rule def.now 0 def.now.rules) result }
-    ensures sorted { OnOk result (All (RuleIsSorted def.now) def.now.rules) }
+    ensures { AnswersFault (bad_rule def.now 0 def.now.rules) result }
 {
     let rules = def.rules.as_slice();
     for (place, rule) in rules.iter().enumerate() {
@@ -112,11 +109,4 @@ fn missing_constructor(def: &Def, hook: HookId, sort: SortId) -> Option<ConId>
         }
     }
     None
-}
-
-/// A law of the definitions: a definition is well sorted exactly where it has no fault.
-pub fn is_well_sorted_exactly(def: &Def)
-    ensures { IsWellSorted def.now ↔ (first_fault def.now ≡ None) }
-{
-    let _def = def;
 }

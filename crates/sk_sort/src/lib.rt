@@ -8,8 +8,10 @@ mod defines;
 mod error;
 mod header;
 mod interp;
+mod laws;
 mod rule;
 
-pub use checked::{Checked, check_sorts, is_well_sorted_exactly};
+pub use checked::{Checked, check_sorts};
 pub use error::{SortError, SortFault};
 pub use interp::{SortInterp, SortStop};
+pub use laws::{bones_are_placed, is_well_sorted_exactly, rules_are_sorted};

@@ -1,11 +1,11 @@
 //! The checks of a rule: the header, the bones, the closing outputs.
-ghost use Rattle.std.specs.Prelude.{◌≡◌, ◌+◌, ◌≤◌, ◌∷◌, [], length, OnOk};
+ghost use Rattle.std.specs.Prelude.{◌≡◌, ◌+◌, ◌≤◌, ◌∷◌, [], length};
 ghost use Rattle.std.specs.Result.{result_err};
 ghost use Rattle.sk_def.specs.Fits.{RuleFits};
 ghost use Rattle.sk_def.specs.Layout.{AreBelow};
 ghost use Rattle.sk_sort.specs.Checks.{first_error};
 ghost use Rattle.sk_sort.specs.Parts.{first_failing, AnswersParts};
-ghost use Rattle.sk_sort.specs.Rules.{RuleIsSorted, rule_fault, header_checks, header_sorts, closing_checks, AnswersStart};
+ghost use Rattle.sk_sort.specs.Rules.{rule_fault, header_checks, header_sorts, closing_checks, AnswersStart};
 
 use crate::SortError;
 use crate::checks::{VarSorts, check_count, check_flows};
@@ -75,8 +75,7 @@ fn check_closing(world: &VarSorts, rule: &Rule, hook: &Hook) -> Result<(), SortS
 /// The checks of a rule, where these rules stand above.
 pub fn check_rule(alloc: Global, def: &Def, earlier: &[Rule], rule: &Rule) -> Result<(), SortStop>
     requires { RuleFits def.now rule.now }
-    ensures answers { AnswersParts (rule_fault def.now earlier.now rule.now) tt result }
-    ensures sorted { OnOk result (RuleIsSorted def.now rule.now) }
+    ensures { AnswersParts (rule_fault def.now earlier.now rule.now) tt result }
 {
     let hook = def.hooks.get(usize::from(rule.hook.0));
     let con = def.cons.get(usize::from(rule.con.0));

@@ -1,0 +1,4 @@
+pub mod Meets
+pub mod Program
+pub mod Reading
+pub mod Terms

@@ -1,0 +1,31 @@
+-- What the code of a step means.
+use Rattle.std.specs.Prelude.{◌≡◌, ℕ, ◌≤◌, List, ◌++◌, length, Option, Some, None}
+use Rattle.sk_term.specs.Reading.{Reading}
+use Rattle.sk_term.specs.declared.fault.TermError.{TermError}
+use Rattle.sk_term.specs.declared.fault.TermFault.{TermFault}
+use Rattle.sk_term.specs.declared.fault.TermFault.TheVariants as fault
+use Rattle.sk_term.specs.declared.fault.Refusal.{Refusal}
+use Rattle.sk_term.specs.declared.fault.Refusal.TheVariants.{Bad, NoMemory}
+
+abbrev pub error_of : Refusal → Option TermError
+error_of (Bad error) = Some error
+error_of NoMemory = None
+
+-- the error and the place of a fault, none for want of memory
+abbrev pub bad_of : TermFault → Option (TermError × ℕ)
+bad_of (fault.Bad error at) = Some (error, at)
+bad_of fault.NoMemory = None
+
+-- names were added, and those before them stay
+pub record HasGrown (before now : List (List ℕ)) : Type 0 where
+  pub added : List (List ℕ)
+  pub is : now ≡ before ++ added
+
+-- the definition stays, and names were added
+pub record Keeps (before now : Reading) : Type 0 where
+  pub definition : now.def ≡ before.def
+  pub names : HasGrown before.names now.names
+
+-- the definition has no more constructors than it may
+abbrev pub IsWithin : Reading → Type 0
+IsWithin state = length state.def.cons ≤ 128

@@ -1,0 +1,15 @@
+//! Programs as terms of a definition's constructors, with a point for each node, and their reader.
+//! All interpretations go over the nodes of a program by their points.
+#![tactic(auto)]
+
+mod arena;
+mod expected;
+mod fault;
+mod node;
+mod read;
+mod reader;
+
+pub use arena::Arena;
+pub use fault::{TermError, TermFault};
+pub use node::{Child, TermNode};
+pub use read::read_term;
