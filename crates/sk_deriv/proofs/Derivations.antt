@@ -5,7 +5,7 @@ use Rattle.std.specs.Option.{option_map, option_and_then, option_map_or}
 use Rattle.sk_def.specs.declared.ids.HookId.{HookId}
 use Rattle.sk_def.specs.declared.def.Rule.{Rule}
 use Rattle.sk_def.specs.Rules.{rule_of}
-use Rattle.sk_deriv.specs.declared.program.TermNode.{TermNode}
+use Rattle.sk_term.specs.declared.node.TermNode.{TermNode}
 use Rattle.sk_filter.specs.Arguments.{Values}
 use Rattle.sk_deriv.specs.Tree.{Derivation, derivation, Steps, done, pick, sub, height, greatest_height}
 use Rattle.sk_deriv.specs.Env.{values_at, start_of}

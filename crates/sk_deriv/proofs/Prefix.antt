@@ -10,7 +10,7 @@ use Rattle.sk_filter.specs.Arguments.{Values}
 use Rattle.sk_deriv.specs.Tree.{Derivation, derivation, Steps, pick, sub, hook_of, point_of, ins_of, outs_of, word, word_of_steps}
 use Rattle.sk_def.specs.declared.def.Rule.{Rule}
 use Rattle.sk_def.specs.Rules.{rule_of}
-use Rattle.sk_deriv.specs.declared.program.TermNode.{TermNode}
+use Rattle.sk_term.specs.declared.node.TermNode.{TermNode}
 use Rattle.sk_def.specs.Layout.{branch}
 use Rattle.sk_value.specs.declared.flow.Flow.{Flow}
 use Rattle.sk_deriv.specs.Env.{Env, start_of, values_at, gain, export}

@@ -4,8 +4,8 @@ use Rattle.std.specs.Option.{option_map, option_and_then}
 use Rattle.sk_def.specs.declared.ids.Var.{Var}
 use Rattle.sk_def.specs.declared.bone.Target.{Target}
 use Rattle.sk_def.specs.declared.def.Rule.{Rule}
-use Rattle.sk_deriv.specs.declared.program.Child.{Child}
-use Rattle.sk_deriv.specs.declared.program.TermNode.{TermNode}
+use Rattle.sk_term.specs.declared.node.Child.{Child}
+use Rattle.sk_term.specs.declared.node.TermNode.{TermNode}
 use Rattle.sk_deriv.specs.declared.entry.Entry.{Entry}
 
 -- the entry of each variable that is defined

@@ -4,6 +4,5 @@ pub mod Exchange
 pub mod Forest
 pub mod Listing
 pub mod Moves
-pub mod Program
 pub mod Results
 pub mod Tree

@@ -6,7 +6,7 @@ use Rattle.sk_def.specs.declared.ids.HookId.{HookId}
 use Rattle.sk_def.specs.declared.bone.Bone.{Bone}
 use Rattle.sk_def.specs.declared.def.Rule.{Rule}
 use Rattle.sk_def.specs.Rules.{rule_of}
-use Rattle.sk_deriv.specs.declared.program.TermNode.{TermNode}
+use Rattle.sk_term.specs.declared.node.TermNode.{TermNode}
 use Rattle.sk_filter.specs.Arguments.{Values}
 use Rattle.sk_filter.specs.Results.{is_choice}
 use Rattle.sk_deriv.specs.Tree.{Derivation, derivation, Steps, done, pick, sub, outs_of, word, IsBefore}

@@ -18,7 +18,7 @@ use Rattle.sk_value.specs.Numbers.{is_number}
 use Rattle.sk_filter.specs.declared.arg.Arg.{Arg}
 use Rattle.sk_filter.specs.Arguments.{Values}
 use Rattle.sk_filter.specs.Results.{results_of, is_choice}
-use Rattle.sk_deriv.specs.declared.program.TermNode.{TermNode}
+use Rattle.sk_term.specs.declared.node.TermNode.{TermNode}
 use Rattle.sk_deriv.specs.declared.entry.Entry.{Entry}
 use Rattle.sk_deriv.specs.Env.{Env, args_at, values_at, target_at, gain, export, start_of}
 use Rattle.sk_deriv.specs.Tree.{Derivation, derivation, Steps, done, pick, sub, hook_of, point_of, ins_of, outs_of}

@@ -7,7 +7,6 @@ mod entry;
 mod forest;
 mod laws;
 mod order;
-mod program;
 
 pub use call::Call;
 pub use entry::Entry;
@@ -15,4 +14,3 @@ pub use forest::{Forest, Node, Step, StepList};
 pub use laws::{
     exchange_keeps, listing_is_exact, nodes_are_trees, results_are_one, trees_stay, words_decode,
 };
-pub use program::{Child, ChildList, TermNode, TermNodeList};

@@ -1,14 +1,10 @@
 -- Tuples of which some stores were padded.
-use Rattle.std.proofs.Common.{◌≡◌, ℕ, zero, suc, ◌-◌, List, [], ◌∷◌, ◌++◌, length, get_or, map, take, drop, replicate, None, Result, Ok, Err, refl, sym, ap, ◌∙◌, subst, arith, append-nil, length-set}
-use Rattle.std.specs.Prelude.{slice_set, OnErr}
+use Rattle.std.proofs.Common.{◌≡◌, ℕ, zero, suc, ◌-◌, List, [], ◌∷◌, ◌++◌, length, get_or, map, take, drop, replicate, None, refl, sym, ap, ◌∙◌, subst, arith, append-nil, length-set}
+use Rattle.std.specs.Prelude.{slice_set}
 use Rattle.std.specs.List.{AllZip, refill}
 use Rattle.std.proofs.Math.Seq.{take-append_seam}
 use Rattle.sk_value.specs.declared.flow.Flow.{Flow}
 use Rattle.sk_value.specs.Padding.{padded_flow, FlowIsPartlyPadded}
-
-pub on_err : {T E P : Type 0} (r : Result T E) → P → OnErr r P
-on_err (Ok x) p = tt
-on_err (Err e) p = p
 
 not_yet : (names : ℕ) (flow : Flow) → FlowIsPartlyPadded names flow flow
 not_yet names (Flow.Int z) = refl
