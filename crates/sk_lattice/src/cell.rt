@@ -163,7 +163,11 @@ fn put_entry<D: NumDom>(out: &mut Vec<u8>, name: &Ident, cell: &AbsCell<D>) -> R
 }
 
 /// Appends the names that may be set, with their cells.
-pub(crate) fn put_cells<D: NumDom>(out: &mut Vec<u8>, names: &Names, cells: &CellList<D>) -> Result<(), NoMemory>
+pub(crate) fn put_cells<D: NumDom>(
+    out: &mut Vec<u8>,
+    names: &Names,
+    cells: &CellList<D>,
+) -> Result<(), NoMemory>
     ensures ok { OnOk result (out.new.items ≡ out.old.items ++ cells_text D.domain D.texts names.now cells.now) }
     ensures err { OnErr result (AppendsPrefix (Some out.old.items) (Some out.new.items) (cells_text D.domain D.texts names.now cells.now)) }
 {

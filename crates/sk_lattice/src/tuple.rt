@@ -164,7 +164,11 @@ fn pad_flows<D: NumDom>(flows: &mut [AbsFlow<D>], names: usize) -> Result<(), No
     Ok(())
 }
 
-fn put_flows<D: NumDom>(flows: &[AbsFlow<D>], names: &Names, out: &mut Vec<u8>) -> Result<(), NoMemory>
+fn put_flows<D: NumDom>(
+    flows: &[AbsFlow<D>],
+    names: &Names,
+    out: &mut Vec<u8>,
+) -> Result<(), NoMemory>
     ensures ok { OnOk result (out.new.items ≡ out.old.items ++ tuple_text D.domain D.texts names.now flows.now) }
     ensures err { OnErr result (AppendsPrefix (Some out.old.items) (Some out.new.items) (tuple_text D.domain D.texts names.now flows.now)) }
 {

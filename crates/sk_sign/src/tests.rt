@@ -1,6 +1,6 @@
 //! Worked values of the calls on tuples over signs.
 
-ghost use Rattle.std.specs.Prelude.{◌≡◌, [], ◌∷◌, IsTrue, IfOk};
+ghost use Rattle.std.specs.Prelude.{◌≡◌, ◌+◌, ◌^◌, ◌<◌, [], ◌∷◌, length, IsTrue, IfOk};
 ghost use Rattle.sk_lattice.specs.Empty.{flow_is_proper};
 ghost use Rattle.sk_lattice.specs.Order.{tuples_fit};
 ghost use Rattle.sk_sign.specs.Signs.{sign_domain};
@@ -35,7 +35,11 @@ fn one_number(alloc: Global, num: Sign) -> Result<AbsTuple<Sign>, NoMemory>
 }
 
 /// The text of the tuple that is made of two tuples, after padding.
-fn text_of<D: NumDom>(alloc: Global, names: &Names, tuple: &AbsTuple<D>) -> Result<Vec<u8>, NoMemory> {
+fn text_of<D: NumDom>(
+    alloc: Global,
+    names: &Names,
+    tuple: &AbsTuple<D>,
+) -> Result<Vec<u8>, NoMemory> {
     let mut padded = tuple.copy(alloc)?;
     padded.pad(names.count())?;
     let mut out = Vec::new(alloc);
@@ -63,7 +67,9 @@ fn calls<D: NumDom>(
     ))
 }
 
-fn reads<D: NumDom>(alloc: Global, text: &[u8]) -> Option<usize> {
+fn reads<D: NumDom>(alloc: Global, text: &[u8]) -> Option<usize>
+    requires { length text.now + 1 < 2 ^ 32 }
+{
     let tokens = tokens(alloc, text).ok()?;
     D::take_text(text, &tokens, 0).ok().map(|taken| taken.1)
 }
@@ -74,13 +80,16 @@ fn calls_over_signs(rt: HostRuntime) -> Result<(), Fail> {
     let low = one_number(alloc, NEGATIVE)?;
     let high = one_number(alloc, POSITIVE)?;
     let marks = Thresholds::from_literals(alloc, &[10, 1])?;
-    assert!(rt; marks.as_slice() == &[i64::MIN, -1, 0, 1, 2, 9, 10, 11, i64::MAX]);
+    assert!(rt; marks.as_slice() == [i64::MIN, -1, 0, 1, 2, 9, 10, 11, i64::MAX].as_slice());
     let (joined, widened, below, meets) = calls(alloc, &low, &high, &marks)?;
-    assert!(rt; joined.as_slice() == b"(nonzero)");
-    assert!(rt; widened.as_slice() == b"(nonzero)");
+    assert!(rt; joined.as_slice() == b"(nonzero)".as_slice());
+    assert!(rt; widened.as_slice() == b"(nonzero)".as_slice());
     assert!(rt; below && !meets);
     let mut one = Tuple::new(alloc);
     one.push(Flow::Int(1))?;
     assert!(rt; high.covers(&one) && !low.covers(&one));
+    assert_eq!(rt; reads::<Sign>(alloc, b"nonpos, zero"), Some(1));
+    assert_eq!(rt; reads::<Sign>(alloc, b"negative"), None);
+    assert_eq!(rt; Sign::domain_word(), "sign");
     Ok(())
 }
