@@ -1,5 +1,5 @@
 -- What a definition that was read fulfils.
-use Rattle.std.proofs.Common.{◌≡◌, ◌≢◌, ℕ, zero, suc, ◌+◌, ◌≤◌, ◌<◌, List, [], ◌∷◌, length, map, refl, sym, ap, subst, ◌∙◌, arith, Option, Some, None, Result, Ok, Err}
+use Rattle.std.proofs.Common.{◌≡◌, ◌≢◌, ℕ, zero, suc, ◌+◌, ◌≤◌, ◌<◌, List, [], ◌∷◌, length, map, refl, sym, ap, subst, ◌∙◌, arith, Some, None, Ok, Err}
 use Rattle.std.specs.Prelude.{slice_get, option_and_then}
 use Rattle.std.proofs.lemmas.List.{length-map}
 use Rattle.std.proofs.lemmas.List.Elements.{All-nil}
@@ -13,13 +13,12 @@ use Rattle.sk_def.specs.Layout.{no_bone}
 use Rattle.sk_def.specs.declared.def.Rule.{Rule}
 use Rattle.sk_def.specs.declared.ids.Var.{Var}
 use Rattle.sk_deftext.specs.Met.{Met}
-use Rattle.sk_deftext.specs.Places.{place_in, place_of_part, PlacesFit}
+use Rattle.sk_deftext.specs.Places.{place_in, PlacesFit}
 use Rattle.sk_deftext.specs.Reading.{definition_rules, nothing, read_symbols, step, at_symbol}
 use Rattle.sk_deftext.specs.Texts.{source_of}
 use Rattle.sk_deftext.specs.declared.draft.Draft.{Draft}
 use Rattle.sk_deftext.specs.declared.expected.Expected.{Expected}
 use Rattle.sk_deftext.specs.declared.expected.Expected.TheVariants.{Skel, Version, Item}
-use Rattle.sk_deftext.specs.declared.fault.DefError.{DefError}
 use Rattle.sk_deftext.specs.declared.source.Source.{Source}
 use Rattle.sk_deftext.proofs.Standing.{Standing, RulesPlaced}
 use Rattle.sk_deftext.proofs.Kept.{Kept, step_keeps}

@@ -1,6 +1,6 @@
 -- What each turn of reading keeps.
-use Rattle.std.proofs.Common.{◌≡◌, ◌⊎◌, inl, inr, ℕ, zero, suc, ◌+◌, ◌<◌, ◌≤◌, nat_lt, Bool, true, false, ◌||◌, if◌then◌else◌, List, [], ◌∷◌, ◌++◌, length, refl, sym, ap, ◌∙◌, arith, length-append, Option, Some, None, Result, Ok, Err, ℤ, pos}
-use Rattle.std.specs.Prelude.{All, position, is_some, codes, option_map}
+use Rattle.std.proofs.Common.{◌≡◌, ◌⊎◌, inl, inr, ℕ, ◌+◌, ◌<◌, ◌≤◌, nat_lt, Bool, true, false, ◌||◌, if◌then◌else◌, List, [], ◌∷◌, ◌++◌, length, refl, arith, length-append, Option, Some, None, Ok, Err, ℤ, pos}
+use Rattle.std.specs.Prelude.{is_some, codes, option_map}
 use Rattle.std.specs.Str.{bytes_eq}
 use Rattle.std.specs.Ordering.{int_eq}
 use Rattle.std.proofs.lemmas.Bool.{ltb-false}
@@ -8,7 +8,7 @@ use Rattle.std.proofs.lemmas.List.Elements.{All-weaker, All-push, All-nil}
 use Rattle.sk_base.specs.Names.{place_of_name, with_name}
 use Rattle.sk_base.specs.declared.flow.FlowSort.{FlowSort}
 use Rattle.sk_lex.specs.Symbols.{Symbol, word_of, number_of, is_open, is_close, is_comma, is_colon, is_arrow, is_left_brace, is_right_brace}
-use Rattle.sk_def.specs.Fits.{ArgumentFits, ConstructorFits, HookFits, RuleFits, DefinitionFits}
+use Rattle.sk_def.specs.Fits.{ArgumentFits, ConstructorFits, HookFits, RuleFits}
 use Rattle.sk_def.specs.Filters.{filter_named}
 use Rattle.sk_def.specs.declared.def.Con.{Con}
 use Rattle.sk_def.specs.declared.def.Hook.{Hook}
@@ -47,7 +47,7 @@ use Rattle.sk_deftext.specs.declared.bone.Opening.{Opening}
 use Rattle.sk_deftext.specs.declared.bone.Opening.TheVariants as opening
 use Rattle.sk_deftext.specs.declared.word.Keyword.{Keyword}
 use Rattle.sk_deftext.specs.declared.word.Keyword.TheVariants as keyword
-use Rattle.sk_deftext.proofs.Standing.{Standing, Named, Heads, RuleHeads, HeadFits, Variables, Bodies, Counted, Placed}
+use Rattle.sk_deftext.proofs.Standing.{Standing, Named, Heads, RuleHeads, HeadFits, Variables, Bodies}
 use Rattle.sk_def.specs.Layout.{no_bone}
 use Rattle.sk_deftext.proofs.Bones.{bones_wider}
 use Rattle.sk_deftext.proofs.Moves as moves

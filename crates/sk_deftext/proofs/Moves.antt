@@ -1,14 +1,14 @@
 -- How what holds of a draft goes on when a part of it changes.
-use Rattle.std.proofs.Common.{◌≡◌, ℕ, zero, suc, ◌+◌, ◌-◌, ◌<◌, ◌≤◌, nat_lt, cond, Bool, true, false, if◌then◌else◌, List, [], ◌∷◌, ◌++◌, length, refl, sym, ap, subst, ◌∙◌, arith, length-append, Option, Some, None}
-use Rattle.std.specs.Prelude.{All, IfSome, sum, position}
+use Rattle.std.proofs.Common.{◌≡◌, ℕ, suc, ◌+◌, ◌-◌, ◌<◌, ◌≤◌, nat_lt, cond, Bool, true, false, if◌then◌else◌, List, [], ◌∷◌, ◌++◌, length, refl, subst, ◌∙◌, arith, length-append, Option, Some, None}
+use Rattle.std.specs.Prelude.{IfSome, position}
 use Rattle.std.specs.List.{position_or_len}
-use Rattle.std.proofs.lemmas.Bool.{ltb-true, ltb-false}
-use Rattle.std.proofs.lemmas.List.Elements.{All-weaker, All-push, All-nil}
+use Rattle.std.proofs.lemmas.Bool.{ltb-true}
+use Rattle.std.proofs.lemmas.List.Elements.{All-weaker}
 use Rattle.std.proofs.lemmas.List.Sums.{sum_by-append}
 use Rattle.sk_base.specs.Names.{place_of_name, with_name}
 use Rattle.sk_base.specs.declared.flow.FlowSort.{FlowSort}
 use Rattle.sk_def.specs.Layout.{AreBelow, BonesFit, no_bone, filter_bone, hook_bone, no_branch}
-use Rattle.sk_def.specs.Fits.{ArgumentFits, ConstructorFits, HookFits, RuleFits, DefinitionFits}
+use Rattle.sk_def.specs.Fits.{ArgumentFits, ConstructorFits, HookFits, RuleFits}
 use Rattle.sk_def.specs.declared.def.Def.{Def}
 use Rattle.sk_def.specs.declared.def.Con.{Con}
 use Rattle.sk_def.specs.declared.def.Hook.{Hook}
@@ -22,9 +22,7 @@ use Rattle.sk_def.specs.declared.sorts.ArgSort.TheVariants as arg
 use Rattle.sk_def.specs.declared.bone.Bone.{Bone}
 use Rattle.sk_def.specs.declared.bone.Bone.TheVariants.{Either}
 use Rattle.sk_def.specs.declared.bone.Target.{Target}
-use Rattle.sk_def.specs.declared.bone.Target.TheVariants.{Own, Sub}
 use Rattle.sk_deftext.specs.Bodies.{bone_of}
-use Rattle.sk_deftext.specs.Meets.{held, count_of}
 use Rattle.sk_deftext.specs.declared.draft.OpenBone.{OpenBone}
 use Rattle.sk_deftext.specs.declared.draft.BoneHead.{BoneHead}
 use Rattle.sk_deftext.specs.declared.draft.BoneHead.TheVariants as head

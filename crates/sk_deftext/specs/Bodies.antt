@@ -1,7 +1,6 @@
 -- Rules: their headers, and bones with branches.
-use Rattle.std.specs.Prelude.{ℕ, ◌-◌, nat_lt, Bool, true, if◌then◌else◌, List, [], ◌∷◌, ◌++◌, length, position, slice_set, option_map, Option, Some, None, Err}
+use Rattle.std.specs.Prelude.{ℕ, nat_lt, Bool, true, if◌then◌else◌, List, [], ◌∷◌, ◌++◌, length, position, option_map, Option, Some, None, Err}
 use Rattle.std.specs.Str.{bytes_eq}
-use Rattle.sk_base.specs.Last.{with_last}
 use Rattle.sk_base.specs.Names.{with_name}
 use Rattle.sk_def.specs.Filters.{filter_named}
 use Rattle.sk_def.specs.declared.filter.Filter.{Filter}

@@ -2,9 +2,7 @@
 use Rattle.std.specs.Prelude.{ℕ, ◌||◌, nat_lt, pos, Bool, true, false, if◌then◌else◌, List, [], ◌∷◌, ◌++◌, length, ℤ, option_map, Option, Some, None, is_some, Result, Ok, Err, codes}
 use Rattle.std.specs.Str.{bytes_eq}
 use Rattle.std.specs.Ordering.{int_eq}
-use Rattle.sk_base.specs.Last.{with_last}
 use Rattle.sk_base.specs.Names.{place_of_name}
-use Rattle.sk_base.specs.declared.flow.FlowSort.{FlowSort}
 use Rattle.sk_lex.specs.Run.{Turn, Rules, run_whole}
 use Rattle.sk_deftext.specs.Met.{Met, met, asked, one_more}
 use Rattle.sk_deftext.specs.Bodies.{rule_hook, rule_con, variable, bone, target, left_brace, branch_begun, or_first, or_more, listed_terms, listed_inputs, with_args, finished_bone, finished_branches, finished_rule, place_of_hook, place_of_con}
@@ -14,8 +12,6 @@ use Rattle.sk_def.specs.declared.sorts.ArgSort.{ArgSort}
 use Rattle.sk_def.specs.declared.sorts.ArgSort.TheVariants as arg
 use Rattle.sk_def.specs.declared.bone.Target.TheVariants.{Own}
 use Rattle.sk_def.specs.declared.ids.SortId.{SortId}
-use Rattle.sk_def.specs.declared.def.Con.{Con}
-use Rattle.sk_def.specs.declared.def.Hook.{Hook}
 use Rattle.sk_deftext.specs.Words.{keyword_in, plain_word, flow_sort_of, is_reserved}
 use Rattle.sk_deftext.specs.declared.draft.Draft.{Draft}
 use Rattle.sk_deftext.specs.declared.expected.Listed.{Listed}

@@ -1,6 +1,4 @@
-use Rattle.std.proofs.Common.{◌≡◌, ◌+◌, ◌-◌, length, slice_range, ap, ◌∙◌}
-use Rattle.sk_base.specs.Place.{place_at}
-use Rattle.sk_base.specs.declared.place.Place.{Place}
+use Rattle.std.proofs.Common.{◌+◌, ◌-◌, ap, ◌∙◌}
 use Rattle.sk_deftext.proofs.Columns.{place_on, both_parts}
 use Rattle.sk_deftext.proofs.places.place_after.Goals as goal
 
