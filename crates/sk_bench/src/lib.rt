@@ -2,7 +2,6 @@
 //! reads, each as the ones before say, and what it then writes. The program `skel` stands on it.
 #![tactic(auto)]
 
-mod fits;
 mod job;
 mod kinds;
 mod print;

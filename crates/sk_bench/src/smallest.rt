@@ -4,7 +4,6 @@ ghost use Rattle.std.specs.List.{list_all};
 ghost use Rattle.sk_bench.specs.Smallest.{is_plain, is_int, is_small_argument, is_small_bone, is_small_con, is_small_filter, is_small_hook, is_small_rule, is_small, is_smallest};
 ghost use Rattle.sk_sort.specs.Definition.{first_fault};
 
-use crate::fits::definition_fits;
 use sk_base::{FlowSort, NoMemory};
 use sk_def::{ArgSort, Bone, Con, Def, Filter, Hook, Rule};
 use sk_deftext::{DefFault, read_def};
@@ -33,10 +32,6 @@ fn check_small(alloc: Global, def: Def) -> Result<Option<Checked>, NoMemory>
 {
     if !is_small(&def) {
         return Ok(None);
-    }
-    // What was read fits always, so this answer never comes.
-    if !definition_fits(&def) {
-        return Err(NoMemory);
     }
     match check_sorts(alloc, def) {
         Ok(checked) => Ok(Some(checked)),

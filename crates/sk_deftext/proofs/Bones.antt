@@ -4,7 +4,7 @@ use Rattle.std.specs.Prelude.{sum}
 use Rattle.std.proofs.lemmas.List.{take-append-le, drop-append-le, take_all, drop_all, length-drop}
 use Rattle.std.proofs.lemmas.List.Elements.{All-weaker}
 use Rattle.std.proofs.lemmas.List.Sums.{sum_by-cons}
-use Rattle.sk_def.specs.Layout.{AreBelow, TargetIsBelow, BonesFit, BranchesFit, no_bone, filter_bone, hook_bone, branch_bone, no_branch, branch}
+use Rattle.sk_def.specs.Layout.{AreBelow, TargetIsBelow, BonesFit, BranchesFit, no_bone, filter_bone, hook_bone, branch_bone, no_branch, one_branch}
 use Rattle.sk_def.specs.declared.ids.Var.{Var}
 use Rattle.sk_def.specs.declared.bone.Target.{Target}
 use Rattle.sk_def.specs.declared.bone.Target.TheVariants.{Own, Sub}
@@ -31,7 +31,7 @@ module _ {hooks vars hooks' vars' : ℕ} (more_hooks : hooks ≤ hooks') (more_v
 
     pub branches_wider : {n : ℕ} {counts : List ℕ} {bones : List Bone} (n' : ℕ) → n ≤ n' → BranchesFit hooks vars n counts bones → BranchesFit hooks' vars' n' counts bones
     branches_wider n' le no_branch = no_branch
-    branches_wider n' le (branch p q) = branch (bones_wider n' le p) (branches_wider n' le q)
+    branches_wider n' le (one_branch p q) = one_branch (bones_wider n' le p) (branches_wider n' le q)
 
 module _ {hooks vars : ℕ} where
   pub bones_both : {n : ℕ} {xs : List Bone} (ys : List Bone) → BonesFit hooks vars n xs → BonesFit hooks vars n ys → BonesFit hooks vars n (xs ++ ys)
@@ -44,13 +44,13 @@ module _ {hooks vars : ℕ} where
   -- one more branch
   pub branches_more : {n : ℕ} {counts : List ℕ} {xs : List Bone} (ys : List Bone) → BranchesFit hooks vars n counts xs → sum counts ≡ length xs → BonesFit hooks vars n ys →
       BranchesFit hooks vars n (counts ++ length ys ∷ []) (xs ++ ys)
-  branches_more {xs = []} ys no_branch e more = branch (rw (take_all (length ys) ys (omega arith)) more) no_branch
+  branches_more {xs = []} ys no_branch e more = one_branch (rw (take_all (length ys) ys (omega arith)) more) no_branch
   branches_more {xs = x ∷ xs} ys no_branch e more = absurd (omega (arith, e))
-  branches_more {xs = xs} ys (branch {count = count} {counts = counts} p q) e more =
+  branches_more {xs = xs} ys (one_branch {count = count} {counts = counts} p q) e more =
       let total : sum (count ∷ counts) ≡ count + sum counts = sum_by-cons (λ (n : ℕ). n) count counts in
       let few : count ≤ length xs = omega (arith, total, e) in
       let rest : sum counts ≡ length (drop count xs) = omega (arith, total, e, length-drop count xs) in
-      branch (rw (take-append-le count xs ys few) p) (rw (drop-append-le count xs ys few) (branches_more ys q rest more))
+      one_branch (rw (take-append-le count xs ys few) p) (rw (drop-append-le count xs ys few) (branches_more ys q rest more))
 
   -- a branch bone goes last, and then its branches
   pub with_branch_bone : {n : ℕ} {before inside : List Bone} {counts : List ℕ} (exports : List Var) → BonesFit hooks vars (suc n) before → 2 ≤ length counts → sum counts ≡ length inside →
