@@ -4,8 +4,8 @@ use Rattle.sk_base.specs.Files.{Folder}
 use Rattle.sk_bench.specs.declared.status.Ending.{Ending}
 use Rattle.sk_bench.specs.declared.status.Ending.TheVariants as ended
 
--- the text that is written in the end, or the file whose turn it is, its limit, and what its bytes lead to; where it isn't
--- stated yet how the work ends, it is Done or Job with any text, until the next command states it
+-- the text that is written in the end, or the file whose turn it is, its limit, and what its bytes lead to. `Unstated` is an
+-- end of which only that it is Done or Job is stated; it goes away once the texts of jobs and of results are stated
 pub data Plan : Type 0 where
   Write : Ending → List ℕ → Plan
   Read : List ℕ → ℕ → (List ℕ → Plan) → Plan
