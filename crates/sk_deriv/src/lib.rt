@@ -6,6 +6,7 @@ mod call;
 mod entry;
 mod forest;
 mod laws;
+mod lines;
 mod order;
 
 pub use call::Call;
