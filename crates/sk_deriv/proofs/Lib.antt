@@ -3,6 +3,7 @@ pub mod Heights
 pub mod Induction
 pub mod Prefix
 pub mod WordOrder
+pub mod Printing
 pub mod Sorted
 pub mod Unique
 pub mod ExchangeLemmas

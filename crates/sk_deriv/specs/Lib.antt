@@ -2,6 +2,7 @@ pub mod Cursors
 pub mod Env
 pub mod Exchange
 pub mod Forest
+pub mod Lines
 pub mod Listing
 pub mod Moves
 pub mod Results

@@ -6,6 +6,7 @@ mod call;
 mod entry;
 mod forest;
 mod laws;
+mod lines;
 mod order;
 
 pub use call::Call;
@@ -14,3 +15,6 @@ pub use forest::{Forest, Node, Step, StepList};
 pub use laws::{
     exchange_keeps, listing_is_exact, nodes_are_trees, results_are_one, trees_stay, words_decode,
 };
+
+#[cfg(test)]
+mod tests;
