@@ -13,14 +13,23 @@ use thiserror::Error;
 /// The limits of a definition, in the order in which they are named where one token passes several.
 #[derive(Clone, Copy, Debug, PartialEq, Eq)]
 pub enum Which {
+    /// 16 sorts.
     Sorts,
+    /// 128 constructors.
     Constructors,
+    /// 8 hooks.
     Hooks,
+    /// 8 entries of a list of arguments or variables.
     Arguments,
+    /// 4 inputs or outputs of a hook.
     Flows,
+    /// 64 bones of a rule, inner ones counted.
     Bones,
+    /// 64 different variables of a rule.
     Variables,
+    /// 8 branches of a branch bone.
     Branches,
+    /// 8 branch bones in one another.
     Nesting,
 }
 

@@ -9,7 +9,9 @@ use sk_def::{Def, HookId};
 /// A definition that was read, and where its parts stand in the text.
 #[derive(Drop)]
 pub struct Source {
+    /// What the text says.
     pub def: Def,
+    /// Where its parts stand.
     pub places: Places,
 }
 
@@ -23,7 +25,7 @@ pub struct Places {
 }
 
 impl Places {
-    /// Where a rule begins.
+    /// Where a rule begins: its word `rule`. The rule is one of the definition's.
     pub fn rule(&self, rule: usize) -> Place
         requires { place_of_part self.now rule 0 ≢ None }
         ensures { place_of_part self.now rule 0 ≡ Some result }
@@ -39,7 +41,7 @@ impl Places {
         *self.rules.get(rule).get(bone)
     }
 
-    /// The word `hook` of a hook.
+    /// The word `hook` of a hook of the definition.
     pub fn hook(&self, hook: HookId) -> Place
         requires { hook.0 < length self.now.hooks }
         ensures { slice_get self.now.hooks hook.0 ≡ Some result }

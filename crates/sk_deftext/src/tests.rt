@@ -1,9 +1,8 @@
 //! Texts of definitions and their answers.
 ghost use Rattle.std.specs.Prelude.{◌-◌, ◌^◌, ◌<◌, length};
 
-use crate::{DefFault, Which, read_def};
+use crate::{DefFault, Places, Which, read_def};
 use sk_base::Place;
-use sk_def::HookId;
 use sk_lex::LexError;
 use std::alloc::Global;
 use std::test::Fail;
@@ -49,8 +48,19 @@ either {
 } or { } with ()
 ";
 
+/// The place of a part of a rule, if there is one.
+fn part(places: &Places, rule: usize, part: usize) -> Option<Place> {
+    places
+        .rules
+        .as_slice()
+        .get(rule)?
+        .as_slice()
+        .get(part)
+        .copied()
+}
+
 /// The sizes of a definition's lists and three of its places, or its fault.
-fn read(alloc: Global, text: &[u8]) -> Result<([usize; 4], [Place; 3]), DefFault>
+fn read(alloc: Global, text: &[u8]) -> Result<([usize; 4], [Option<Place>; 3]), DefFault>
     requires { length text.now < 2 ^ 32 - 1 }
 {
     let source = read_def(alloc, text)?;
@@ -60,17 +70,10 @@ fn read(alloc: Global, text: &[u8]) -> Result<([usize; 4], [Place; 3]), DefFault
         source.def.hooks.len(),
         source.def.rules.len(),
     ];
-    let here = Place { line: 1, column: 1 };
-    if source.def.hooks.len() != 1 || source.def.rules.len() != 2 {
-        return Ok((sizes, [here, here, here]));
-    }
-    if source.def.rules.get(1).bones.len() != 3 {
-        return Ok((sizes, [here, here, here]));
-    }
     let places = [
-        source.places.hook(HookId(0)),
-        source.places.rule(1),
-        source.places.bone(1, 4),
+        source.places.hooks.as_slice().first().copied(),
+        part(&source.places, 1, 0),
+        part(&source.places, 1, 4),
     ];
     Ok((sizes, places))
 }
@@ -84,7 +87,10 @@ fn reads_and_refuses(rt: HostRuntime) -> Result<(), Fail> {
     let alloc = rt.alloc();
     assert_eq!(rt;
         read(alloc, MINI),
-        Ok(([1, 2, 1, 2], [at(5, 1), at(7, 1), at(11, 3)]))
+        Ok((
+            [1, 2, 1, 2],
+            [Some(at(5, 1)), Some(at(7, 1)), Some(at(11, 3))]
+        ))
     );
     let refused: [(&[u8], DefFault); 11] = [
         (CUT, DefFault::Unexpected(at(10, 15))),

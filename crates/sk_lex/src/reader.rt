@@ -13,17 +13,21 @@ use crate::token::Token;
 use sk_base::{NoMemory, Stack};
 use std::alloc::Global;
 
-/// What comes of a token that is met: what is expected in its place, and how many further tokens were taken with it.
+/// What comes of a token that is met.
 #[derive(Drop)]
 pub struct Taken<E: 'static> {
+    /// What is expected in its place, in order.
     pub expected: &'static [E],
+    /// How many further tokens were taken with it.
     pub more: usize,
 }
 
-/// A code and the place of its token, or want of memory.
+/// Why a reader stopped.
 #[derive(Drop)]
 pub enum Refused<C> {
+    /// The code and the place of its token, which is the number of tokens at the end of the text.
     Bad(C, usize),
+    /// Memory was refused.
     NoMemory,
 }
 
@@ -38,7 +42,8 @@ impl<C> From<NoMemory> for Refused<C> {
     }
 }
 
-/// What was read so far of a text, and how to go on.
+/// What was read so far of a text, and the grammar by which it goes on. What is lent to a reader for a while, as a list
+/// of names, is moved into it and taken back afterwards; what `keeps` says of it holds after a refusal too.
 pub trait Reader {
     /// What may stand next.
     type Expected: Copy + Drop + 'static;
@@ -46,13 +51,13 @@ pub trait Reader {
     /// Why a token is refused.
     type Code: Copy + Drop;
 
-    /// The grammar.
+    /// The grammar: what comes of a symbol where this is expected, and where a text may end.
     ghost rules: { Rules Self.Expected Self Self.Code };
 
     /// What holds of what was read so far.
     ghost within: { Self → Type 0 };
 
-    /// What holds from the beginning to now, also after a refusal.
+    /// What holds between the reader as it began and as it is now, also after a refusal.
     ghost keeps: { Self → Self → Type 0 };
 
     /// Meets the token at a place of a text, where this is expected.
