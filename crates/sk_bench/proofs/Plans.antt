@@ -1,5 +1,5 @@
 -- What holds of every plan.
-use Rattle.std.proofs.Common.{◌≡◌, ◌⊎◌, ℕ, ◌<◌, ◌≤◌, Bool, true, false, IsTrue, IsFalse, List, length, Option, None, Some, IfSome, refl, sym, ap, ◌∙◌, subst, inl, inr, arith}
+use Rattle.std.proofs.Common.{◌≡◌, ℕ, ◌<◌, Bool, IsTrue, IsFalse, List, length, Option, None, Some, IfSome, sym, ◌∙◌, subst, inl, inr, arith}
 use Rattle.sk_base.specs.Files.{Folder}
 use Rattle.sk_bench.specs.declared.status.Ending.{Ending}
 use Rattle.sk_bench.specs.Plan.{Plan, Write, Read, Unstated, Ended, Ends, Reaches, Agrees, IsTold, IsSteady, IsShaky, GaveTooMuch, IsTooLong, IsSteadyTooLong}

@@ -1,5 +1,5 @@
 -- What follows for the top call, whatever the plan.
-use Rattle.std.proofs.Common.{◌≡◌, ◌⊎◌, ℕ, ◌<◌, ◌≤◌, IsTrue, IfSome, List, [], ◌∷◌, length, Option, None, Some, Result, Ok, Err, IsOk, refl, sym, ap, ◌∙◌, subst, inl, inr, arith}
+use Rattle.std.proofs.Common.{◌≡◌, ℕ, ◌≤◌, IfSome, List, length, Option, Some, Err, refl, sym, ap, subst, inl, inr}
 use Rattle.sk_base.specs.Files.{Folder, Selection}
 use Rattle.sk_base.specs.Sink.{PutFits}
 use Rattle.sk_base.specs.declared.errors.Failed.{Failed}
@@ -10,11 +10,11 @@ use Rattle.sk_bench.specs.declared.status.Stop.{Stop}
 use Rattle.sk_bench.specs.declared.status.Stop.TheVariants as stop
 use Rattle.sk_bench.specs.declared.kinds.Command.{Command}
 use Rattle.sk_bench.specs.Status.{status_of, stop_status}
-use Rattle.sk_bench.specs.Plan.{Plan, Ended, Ends, Reaches, Agrees, IsTold, IsSteady, IsShaky, GaveTooMuch, IsTooLong, IsSteadyTooLong}
+use Rattle.sk_bench.specs.Plan.{Plan, Ended}
 use Rattle.sk_bench.specs.Words.{command_of}
 use Rattle.sk_bench.specs.Commands.{plan_of, planned}
 use Rattle.sk_bench.specs.Following.{HasStopped}
-use Rattle.sk_bench.specs.Headline.{IsOneOf, EndsAsTold, StopsAsTold, IsComplete, IsCompleteTooLong}
+use Rattle.sk_bench.specs.Headline.{EndsAsTold, StopsAsTold, IsComplete, IsCompleteTooLong}
 use Rattle.sk_bench.proofs.Plans.{ends_steady, reaches_steady, ends_told, ends_short, too_long_ends, ends_unshaken, too_long_unshaken}
 
 -- what holds of the command's plan holds of the plan that the words ask for

@@ -1,5 +1,5 @@
 -- What a command does with the outside: it reads files one after another, each as the ones before say, and then writes a text.
-use Rattle.std.specs.Prelude.{◌≡◌, ◌⊎◌, ℕ, ◌+◌, ◌<◌, ◌≤◌, IsTrue, IsFalse, IfSome, List, [], ◌∷◌, length, Option, Some}
+use Rattle.std.specs.Prelude.{◌≡◌, ◌⊎◌, ℕ, ◌+◌, ◌<◌, ◌≤◌, IsTrue, IsFalse, IfSome, List, length, Some}
 use Rattle.sk_base.specs.Files.{Folder}
 use Rattle.sk_bench.specs.declared.status.Ending.{Ending}
 use Rattle.sk_bench.specs.declared.status.Ending.TheVariants as ended

@@ -1,5 +1,5 @@
 -- The interpretation that answers hook bones from trees that were handed to it. Its relation says nothing yet.
-use Rattle.std.specs.Prelude.{ℕ, false, ⊤, List, map, Option}
+use Rattle.std.specs.Prelude.{false, ⊤, List, map, Option}
 use Rattle.std.specs.Option.{option_map}
 use Rattle.sk_def.specs.declared.sorts.VarSort.{VarSort}
 use Rattle.sk_def.specs.declared.sorts.VarSort.TheVariants as sort

@@ -26,7 +26,8 @@ use Rattle.sk_def.specs.declared.bone.Target.TheVariants.{Own, Sub}
 use Rattle.sk_deftext.specs.Met.{Met, met, asked, one_more}
 use Rattle.sk_deftext.specs.Words.{keyword_of, keyword_in, plain_word, flow_sort_of, is_reserved}
 use Rattle.sk_deftext.specs.Bodies as spec
-use Rattle.sk_deftext.specs.Bodies.{rule_hook, rule_con, variable, opening_of, bone, target, left_brace, or_first, or_more, place_of_con, place_of_hook, hook_named, bone_of}
+use Rattle.sk_def.specs.Named.{place_of_con, place_of_hook}
+use Rattle.sk_deftext.specs.Bodies.{rule_hook, rule_con, variable, opening_of, bone, target, left_brace, or_first, or_more, hook_named, bone_of}
 use Rattle.sk_deftext.specs.Reading as read
 use Rattle.sk_deftext.specs.Reading.{skel, version, item, sort_name, con_name, hook_name, sort_used, argument, input, output, entry, closed, first, more, step}
 use Rattle.sk_deftext.specs.Meets.{held, count_of}

@@ -1,7 +1,7 @@
 -- Rules: their headers, and bones with branches.
-use Rattle.std.specs.Prelude.{ℕ, nat_lt, Bool, true, if◌then◌else◌, List, [], ◌∷◌, ◌++◌, length, position, option_map, Option, Some, None, Err}
-use Rattle.std.specs.Str.{bytes_eq}
+use Rattle.std.specs.Prelude.{ℕ, nat_lt, Bool, true, if◌then◌else◌, List, [], ◌∷◌, ◌++◌, length, option_map, Option, Some, None, Err}
 use Rattle.sk_base.specs.Names.{with_name}
+use Rattle.sk_def.specs.Named.{place_of_con, place_of_hook}
 use Rattle.sk_def.specs.Filters.{filter_named}
 use Rattle.sk_def.specs.declared.filter.Filter.{Filter}
 use Rattle.sk_def.specs.declared.ids.HookId.{HookId}
@@ -31,13 +31,6 @@ use Rattle.sk_deftext.specs.declared.bone.Opening.{Opening}
 use Rattle.sk_deftext.specs.declared.bone.Opening.TheVariants as opening
 use Rattle.sk_deftext.specs.declared.word.Keyword.{Keyword}
 use Rattle.sk_deftext.specs.declared.word.Keyword.TheVariants as keyword
-
--- the first place of a constructor of this name, and of a hook
-abbrev pub place_of_con : List Con → List ℕ → Option ℕ
-place_of_con cons word = position (λ con. bytes_eq con.name word) cons
-
-abbrev pub place_of_hook : List Hook → List ℕ → Option ℕ
-place_of_hook hooks word = position (λ hook. bytes_eq hook.name word) hooks
 
 -- the hook of a name, and the constructor
 abbrev pub hook_named : List Hook → List ℕ → Option HookId

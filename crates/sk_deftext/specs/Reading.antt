@@ -5,7 +5,8 @@ use Rattle.std.specs.Ordering.{int_eq}
 use Rattle.sk_base.specs.Names.{place_of_name}
 use Rattle.sk_lex.specs.Run.{Turn, Rules, run_whole}
 use Rattle.sk_deftext.specs.Met.{Met, met, asked, one_more}
-use Rattle.sk_deftext.specs.Bodies.{rule_hook, rule_con, variable, bone, target, left_brace, branch_begun, or_first, or_more, listed_terms, listed_inputs, with_args, finished_bone, finished_branches, finished_rule, place_of_hook, place_of_con}
+use Rattle.sk_def.specs.Named.{place_of_con, place_of_hook}
+use Rattle.sk_deftext.specs.Bodies.{rule_hook, rule_con, variable, bone, target, left_brace, branch_begun, or_first, or_more, listed_terms, listed_inputs, with_args, finished_bone, finished_branches, finished_rule}
 use Rattle.sk_lex.specs.Symbols.{Symbol, word_of, number_of, is_open, is_close, is_comma, is_colon, is_arrow, is_left_brace, is_right_brace}
 use Rattle.sk_def.specs.Filters.{filter_named}
 use Rattle.sk_def.specs.declared.sorts.ArgSort.{ArgSort}

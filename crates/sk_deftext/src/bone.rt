@@ -3,6 +3,7 @@
 ghost use Rattle.std.specs.Prelude.{◌≡◌, ◌<◌, ◌≤◌, ℕ, List, [], ◌∷◌, ◌++◌, length, nat_lt, OnOk, IfOk};
 ghost use Rattle.sk_base.specs.Answer.{Gives};
 ghost use Rattle.sk_lex.specs.Symbols.{symbol, IsShort, word_of, is_left_brace, is_right_brace};
+ghost use Rattle.sk_def.specs.Named.{place_of_con, place_of_hook};
 ghost use Rattle.sk_deftext.specs.Bodies as spec;
 ghost use Rattle.sk_deftext.specs.Met.{turn_of, met};
 ghost use Rattle.sk_deftext.specs.Meets.{error_of, IsWithin};
@@ -36,14 +37,14 @@ pub(crate) enum Opening {
 
 /// The first place of a constructor of this name.
 pub(crate) fn place_of_con(cons: &[Con], word: &[u8]) -> Option<usize>
-    ensures { result ≡ spec.place_of_con cons.now word.now }
+    ensures { result ≡ place_of_con cons.now word.now }
 {
     cons.iter().position(|con| con.name.is(word))
 }
 
 /// The first place of a hook of this name.
 pub(crate) fn place_of_hook(hooks: &[Hook], word: &[u8]) -> Option<usize>
-    ensures { result ≡ spec.place_of_hook hooks.now word.now }
+    ensures { result ≡ place_of_hook hooks.now word.now }
 {
     hooks.iter().position(|hook| hook.name.is(word))
 }

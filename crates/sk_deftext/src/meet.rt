@@ -6,7 +6,7 @@ ghost use Rattle.sk_base.specs.Names.{place_of_name};
 ghost use Rattle.sk_lex.specs.Symbols.{symbol, IsShort, word_of, number_of};
 ghost use Rattle.sk_deftext.specs.Reading as spec;
 ghost use Rattle.sk_deftext.specs.Met.{turn_of, met, asked};
-ghost use Rattle.sk_deftext.specs.Bodies.{place_of_con, place_of_hook};
+ghost use Rattle.sk_def.specs.Named.{place_of_con, place_of_hook};
 ghost use Rattle.sk_deftext.specs.Meets.{error_of, IsWithin};
 ghost use Rattle.sk_deftext.specs.Words.{keyword_in, plain_word};
 ghost use Rattle.sk_deftext.specs.declared.draft.Draft.{Draft};

@@ -1,9 +1,7 @@
-use Rattle.std.proofs.Common.{◌≡◌, Some, List, length, map, string_bytes, sym, ap, ◌∙◌, subst}
-use Rattle.sk_base.specs.Sink.{PutFits}
-use Rattle.sk_bench.specs.Status.{status_of, stop_status}
+use Rattle.std.proofs.Common.{map, string_bytes, sym}
 use Rattle.sk_bench.specs.Commands.{plan_of}
 use Rattle.sk_bench.specs.Headline.{EndsAsTold, StopsAsTold, IsComplete, IsCompleteTooLong}
-use Rattle.sk_bench.proofs.Promises.{if_planned, written_exact, written_complete, made_limit, made_complete_too_long, failed_complete, stopped_exact, stopped_limit, stopped_complete, stopped_complete_too_long}
+use Rattle.sk_bench.proofs.Promises.{if_planned, written_exact, written_complete, made_limit, made_complete_too_long, failed_complete, stopped_exact, stopped_complete, stopped_complete_too_long}
 use Rattle.sk_bench.specs.declared.status.Status.TheVariants as status
 use Rattle.sk_bench.proofs.top.workbench.Goals as goal
 
