@@ -6,10 +6,10 @@ ghost use Rattle.sk_lattice.specs.Order.{tuples_fit};
 ghost use Rattle.sk_sign.specs.Signs.{sign_domain};
 
 use crate::Sign;
-use sk_base::{Names, NoMemory};
-use sk_lattice::{AbsFlow, AbsTuple, NumDom, Thresholds};
+use sk_base::{Ident, Names, NoMemory, Seq};
+use sk_lattice::{AbsBool, AbsCell, AbsFlow, AbsStore, AbsTuple, AbsVal, NumDom, Thresholds};
 use sk_lex::tokens;
-use sk_value::{Flow, Tuple};
+use sk_value::{Flow, Tuple, Value};
 use std::alloc::Global;
 use std::test::Fail;
 
@@ -31,6 +31,24 @@ fn one_number(alloc: Global, num: Sign) -> Result<AbsTuple<Sign>, NoMemory>
 {
     let mut tuple = AbsTuple::new(alloc);
     tuple.push(AbsFlow::Int(num))?;
+    Ok(tuple)
+}
+
+/// The tuple of one store, whose one name may be unset or hold a positive number.
+fn one_store(alloc: Global) -> Result<AbsTuple<Sign>, NoMemory> {
+    let mut cells = Seq::new(alloc);
+    cells.push(AbsCell {
+        val: AbsVal {
+            num: POSITIVE,
+            truth: AbsBool {
+                has_true: false,
+                has_false: false,
+            },
+        },
+        unset: true,
+    })?;
+    let mut tuple = AbsTuple::new(alloc);
+    tuple.push(AbsFlow::Store(AbsStore::of(cells)))?;
     Ok(tuple)
 }
 
@@ -91,5 +109,23 @@ fn calls_over_signs(rt: HostRuntime) -> Result<(), Fail> {
     assert_eq!(rt; reads::<Sign>(alloc, b"nonpos, zero"), Some(1));
     assert_eq!(rt; reads::<Sign>(alloc, b"negative"), None);
     assert_eq!(rt; Sign::domain_word(), "sign");
+    Ok(())
+}
+
+#[test]
+fn stores_over_signs(rt: HostRuntime) -> Result<(), Fail> {
+    let alloc = rt.alloc();
+    let mut names = Names::new(alloc);
+    names.add(&Ident::of(alloc, b"x")?)?;
+    names.add(&Ident::of(alloc, b"y")?)?;
+    let tuple = one_store(alloc)?;
+    assert!(rt; text_of(alloc, &names, &tuple)?.as_slice() == b"({x=pos/none?})".as_slice());
+    let mut store = Seq::new(alloc);
+    store.push(Some(Value::Int(1)))?;
+    let mut state = Tuple::new(alloc);
+    state.push(Flow::Store(store))?;
+    assert!(rt; tuple.covers(&state));
+    assert!(rt; tuple.leq(&tuple));
+    assert!(rt; AbsCell::<Sign>::unset().val.is_empty());
     Ok(())
 }
