@@ -1,3 +1,3 @@
-mod Numbers
+pub mod Numbers
 mod Padding
 pub mod Texts
