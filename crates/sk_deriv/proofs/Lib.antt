@@ -15,3 +15,6 @@ pub mod ForestLemmas
 pub mod OneResult
 pub mod LeastSubtrees
 pub mod FirstOfEach
+pub mod TupleNames
+pub mod TupleShapes
+pub mod TupleTurns

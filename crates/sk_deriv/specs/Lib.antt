@@ -3,7 +3,9 @@ pub mod Env
 pub mod Exchange
 pub mod Forest
 pub mod Lines
+pub mod Meets
 pub mod Listing
 pub mod Moves
+pub mod Reading
 pub mod Results
 pub mod Tree
