@@ -1,6 +1,15 @@
 pub mod Bones
 pub mod Columns
+pub mod Found
 pub mod Fulfilled
+pub mod Items
 pub mod Kept
+pub mod Lines
 pub mod Moves
+pub mod Naming
+pub mod Returned
+pub mod Said
+pub mod Spelled
 pub mod Standing
+pub mod Steps
+pub mod WordsOf

@@ -1,4 +1,5 @@
 pub mod Bodies
+pub mod Canonical
 pub mod Faults
 pub mod Meets
 pub mod Met
@@ -6,3 +7,4 @@ pub mod Places
 pub mod Reading
 pub mod Texts
 pub mod Words
+pub mod Written

@@ -8,12 +8,14 @@ mod expected;
 mod fault;
 mod meet;
 mod places;
+mod print;
 mod read;
 mod source;
 mod text;
 mod word;
 
 pub use fault::{DefFault, Which};
+pub use print::print_def;
 pub use source::{Places, Source};
 pub use text::read_def;
 

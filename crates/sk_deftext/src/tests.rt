@@ -1,8 +1,8 @@
 //! Texts of definitions and their answers.
 ghost use Rattle.std.specs.Prelude.{◌-◌, ◌^◌, ◌<◌, length};
 
-use crate::{DefFault, Places, Which, read_def};
-use sk_base::Place;
+use crate::{DefFault, Places, Which, print_def, read_def};
+use sk_base::{NoMemory, Place};
 use sk_lex::LexError;
 use std::alloc::Global;
 use std::test::Fail;
@@ -31,22 +31,77 @@ rule eval plus(a, b) () {
   eval() b -> (y)
   add(x, y) ->";
 
-const NESTED: &[u8] = b"skel 1
+const MINI_PRINTED: &[u8] = b"skel 1
+sort expr
+con num : expr(number)
+con plus : expr(expr, expr)
+hook eval() expr -> (int)
+rule eval num(n) () {
+  lit(n) -> (v)
+} -> (v)
+rule eval plus(a, b) () {
+  eval() a -> (x)
+  eval() b -> (y)
+  add(x, y) -> (z)
+} -> (z)
+";
+
+const LOOP: &[u8] = b"skel 1
+sort bexp
+sort stmt
+con none : bexp(name)
+con while : stmt(bexp, stmt)
+hook test(store) bexp -> (bool)
+hook exec(store) stmt -> (store)
+rule exec while(c, b) (s) {
+  test(s) c -> (k)
+  either {
+    is_true(k) -> ()
+    either {
+      exec(s) b -> (s1)
+    } or {
+      keep_store(s) -> (s1)
+    } with (s1)
+    exec(s1) self -> (t)
+  } or {
+    is_false(k) -> ()
+    keep_store(s) -> (t)
+  } with (t)
+} -> (t)
+";
+
+const RULE: &[u8] = b"skel 1
 sort t
 con c : t()
 hook go() t -> ()
 rule go c() () {
-either {
-either {
-either {
-either {
-either {
-either {
-either {
-either {
-either {
-} or { } with ()
 ";
+
+/// A text with repeated lines in it.
+fn repeated(
+    alloc: Global,
+    times: usize,
+    opening: &[u8],
+    closing: &[u8],
+) -> Result<Vec<u8>, NoMemory> {
+    let mut text = Vec::from_slice(alloc, RULE)?;
+    for _ in 0..times {
+        text.extend_from_slice(opening)?;
+    }
+    for _ in 0..times {
+        text.extend_from_slice(closing)?;
+    }
+    text.extend_from_slice(b"} -> ()\n")?;
+    Ok(text)
+}
+
+/// Whether a definition is printed so.
+fn prints(alloc: Global, text: &[u8], canonical: &[u8]) -> Result<bool, DefFault>
+    requires { length text.now < 2 ^ 32 - 1 }
+{
+    let printed = print_def(alloc, &read_def(alloc, text)?.def)?;
+    Ok(printed.as_slice() == canonical)
+}
 
 /// The place of a part of a rule, if there is one.
 fn part(places: &Places, rule: usize, part: usize) -> Option<Place> {
@@ -78,6 +133,15 @@ fn read(alloc: Global, text: &[u8]) -> Result<([usize; 4], [Option<Place>; 3]), 
     Ok((sizes, places))
 }
 
+/// The fault of a rule with repeated lines, which are few.
+fn fault(alloc: Global, times: usize, opening: &[u8], closing: &[u8]) -> Option<DefFault> {
+    let text = repeated(alloc, times, opening, closing).ok()?;
+    if text.len() >= 10_000 {
+        return None;
+    }
+    read_def(alloc, text.as_slice()).err()
+}
+
 fn at(line: u32, column: u32) -> Place {
     Place { line, column }
 }
@@ -92,7 +156,7 @@ fn reads_and_refuses(rt: HostRuntime) -> Result<(), Fail> {
             [Some(at(5, 1)), Some(at(7, 1)), Some(at(11, 3))]
         ))
     );
-    let refused: [(&[u8], DefFault); 11] = [
+    let refused: [(&[u8], DefFault); 10] = [
         (CUT, DefFault::Unexpected(at(10, 15))),
         (b"", DefFault::Unexpected(at(1, 1))),
         (
@@ -121,10 +185,27 @@ fn reads_and_refuses(rt: HostRuntime) -> Result<(), Fail> {
             b"skel 1\nsort t\nhook h(int, int, int, int, int) t -> ()\n",
             DefFault::TooMany(at(3, 28), Which::Flows),
         ),
-        (NESTED, DefFault::TooMany(at(14, 1), Which::Nesting)),
     ];
     for (text, fault) in refused {
         assert_eq!(rt; read(alloc, text), Err(fault));
     }
+    Ok(())
+}
+
+#[test]
+fn prints_and_counts(rt: HostRuntime) -> Result<(), Fail> {
+    let alloc = rt.alloc();
+    assert_eq!(rt; prints(alloc, MINI, MINI_PRINTED), Ok(true));
+    assert_eq!(rt; prints(alloc, LOOP, LOOP), Ok(true));
+    assert_eq!(rt; fault(alloc, 64, b"zero() -> (a)\n", b""), None);
+    assert_eq!(rt;
+        fault(alloc, 65, b"zero() -> (a)\n", b""),
+        Some(DefFault::TooMany(at(70, 1), Which::Bones))
+    );
+    assert_eq!(rt; fault(alloc, 8, b"either {\n", b"} or { } with ()\n"), None);
+    assert_eq!(rt;
+        fault(alloc, 9, b"either {\n", b"} or { } with ()\n"),
+        Some(DefFault::TooMany(at(14, 1), Which::Nesting))
+    );
     Ok(())
 }

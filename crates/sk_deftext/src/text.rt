@@ -7,6 +7,7 @@ ghost use Rattle.sk_def.specs.Fits.{DefinitionFits};
 ghost use Rattle.sk_deftext.specs.Faults.{refusal_of};
 ghost use Rattle.sk_deftext.specs.Places.{PlacesFit};
 ghost use Rattle.sk_deftext.specs.Texts.{read_definition, source_of};
+ghost use Rattle.sk_deftext.specs.Written.{HasNames};
 
 use crate::draft::Draft;
 use crate::fault::DefFault;
@@ -54,6 +55,9 @@ pub fn read_def(alloc: Global, text: &[u8]) -> Result<Source, DefFault>
     // What was read is within the limits, each number in it is of its lists, and each part of it has its place.
     ensures fits { IfOk result (λ source. DefinitionFits source.def) }
     ensures placed { IfOk result PlacesFit }
+
+    // Its names are different words that are no keywords, and its lists are short.
+    ensures named { IfOk result (λ source. HasNames source.def) }
 {
     let tokens = match tokens(alloc, text) {
         Ok(tokens) => tokens,

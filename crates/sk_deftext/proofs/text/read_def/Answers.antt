@@ -1,4 +1,10 @@
+use Rattle.std.proofs.Common.{rules, ◌≡◌, Ok, ap, sym, subst}
+use Rattle.sk_lex.specs.Tokens.{tokens_of}
+use Rattle.sk_def.specs.declared.def.Def.{Def}
+use Rattle.sk_deftext.specs.Written.{HasNames}
+use Rattle.sk_deftext.specs.declared.source.Source.{Source}
 use Rattle.sk_deftext.proofs.Fulfilled.{read_stands, source_fits, source_placed}
+use Rattle.sk_deftext.proofs.Naming.{text_has_names}
 use Rattle.sk_deftext.proofs.text.read_def.Goals as goal
 
 pub returns-in-Ok-read_draft-clause-fits : goal.returns-in-Ok-read_draft-clause-fits
@@ -10,3 +16,11 @@ pub returns-in-Ok-read_draft-clause-placed : goal.returns-in-Ok-read_draft-claus
 returns-in-Ok-read_draft-clause-placed c =
     source_placed c.args.text.now c.as_slice-in-Ok-read_draft.result.now c.in-Ok-read_draft.draft c.in_ok-with_places-in-Ok-read_draft.field-0 c.in_ok-with_places-in-Ok-read_draft.ensures
     (read_stands _ c.in-Ok-read_draft.draft c.in-Ok-read_draft.ensures)
+
+pub returns-in-Ok-read_draft-clause-named : goal.returns-in-Ok-read_draft-clause-named
+returns-in-Ok-read_draft-clause-named c =
+    let tokens : tokens_of c.args.text.now ≡ Ok c.as_slice.result.now = search rules in
+    let named = text_has_names c.args.text.now c.as_slice.result.now c.in-Ok-read_draft.draft tokens c.in-Ok-read_draft.ensures in
+    let same : c.in_ok-with_places-in-Ok-read_draft.field-0.def ≡ c.in-Ok-read_draft.draft.def = ap (λ (source : Source). source.def) c.in_ok-with_places-in-Ok-read_draft.ensures in
+    let P : Def → Type 0 = HasNames in
+    subst P (sym same) named
