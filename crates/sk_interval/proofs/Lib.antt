@@ -1,0 +1,5 @@
+pub mod Refined
+pub mod Taking
+pub mod Searches
+pub mod Spelled
+pub mod Faults

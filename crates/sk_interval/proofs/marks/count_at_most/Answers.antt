@@ -1,0 +1,12 @@
+-- The marks rise, so those at most the number come first.
+use Rattle.std.proofs.Common.{rules, of_calls}
+use Rattle.std.specs.Prelude.{int_le}
+use Rattle.std.proofs.lemmas.Fn.{always_returns_same}
+use Rattle.sk_interval.proofs.Searches.{at_most_first}
+use Rattle.sk_interval.proofs.marks.count_at_most.Goals as goal
+
+pub returns-clause-first : goal.returns-clause-first
+returns-clause-first c =
+    let n = c.args.number.now in
+    rw (← c.as_slice.ensures)
+    (c.partition_point.ensures.partitioned (λ m. int_le m n) (always_returns_same _ _ _ (λ a r f k. search (rules, of_calls))) (rw c.as_slice.ensures (at_most_first _ c.increase.ensures n)))

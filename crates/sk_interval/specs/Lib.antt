@@ -1,0 +1,10 @@
+pub mod Ends
+pub mod Cuts
+pub mod Arithmetic
+pub mod Comparisons
+pub mod Widening
+pub mod Intervals
+pub mod Texts
+pub mod Spellings
+pub mod Laws
+pub mod Sets
