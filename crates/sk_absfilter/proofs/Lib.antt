@@ -1,0 +1,9 @@
+pub mod Beside
+pub mod Covered
+pub mod CoveredCells
+pub mod CoveredTruths
+pub mod Sound
+pub mod Above
+pub mod Monotone
+pub mod Fitting
+pub mod ProperResults

@@ -1,0 +1,5 @@
+pub mod Arguments
+pub mod Truths
+pub mod Abstract
+pub mod Laws
+pub mod Fits
