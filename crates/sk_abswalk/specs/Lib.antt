@@ -1,0 +1,11 @@
+pub mod Walk
+pub mod Tables
+pub mod Order
+pub mod Meaning
+pub mod Verdict
+pub mod Fits
+pub mod Proper
+pub mod FromTable
+pub mod Branches
+pub mod TableReader
+pub mod RuleAt

@@ -1,0 +1,29 @@
+//! The abstract reading of rules over any domain: walks through a rule from abstract inputs, what a table answers to the
+//! calls that they ask, accepted tables, and the proof that these are sound. The table checker and the analyser stand on
+//! it.
+#![tactic(auto)]
+
+mod answer;
+mod branches;
+mod env;
+mod from_table;
+mod laws;
+mod steps;
+mod stop;
+mod verdict;
+mod walk;
+mod world;
+
+pub use answer::{is_covered, table_answer};
+pub use from_table::FromTable;
+pub use laws::{
+    accepted_tables_are_sound, answers_of_tables_fit, bounds_do_not_matter, walker_walks,
+    walks_agree, walks_are_monotone, walks_are_proper, walks_fit,
+};
+pub use stop::{FromStop, Stop};
+pub use verdict::{Verdict, Why, verdicts_are_right};
+pub use walk::walk_from;
+pub use world::World;
+
+#[cfg(test)]
+mod tests;
