@@ -1,0 +1,13 @@
+pub mod Lists
+pub mod Sides
+pub mod Bearing
+pub mod Rising
+pub mod Climbs
+pub mod Ending
+pub mod Accepting
+pub mod Orders
+pub mod Marking
+pub mod SecondPhase
+pub mod SecondMarks
+pub mod Example
+pub mod TupleWalks

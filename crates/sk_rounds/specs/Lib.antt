@@ -1,0 +1,10 @@
+pub mod Walks
+pub mod Rounds
+pub mod Accepted
+pub mod Replay
+pub mod Marks
+pub mod SecondPhase
+pub mod SecondLaws
+pub mod Laws
+pub mod Example
+pub mod Tuples
