@@ -1,0 +1,5 @@
+pub mod Reading
+pub mod Tables
+pub mod Sides
+pub mod Tabled
+pub mod Laws
