@@ -1,0 +1,7 @@
+pub mod Operands
+pub mod Positions
+pub mod Lines
+pub mod Keys
+pub mod Worlds
+pub mod Meaning
+pub mod Texts
