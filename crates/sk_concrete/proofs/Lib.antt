@@ -1,0 +1,15 @@
+pub mod Bounds
+pub mod CallsAnswered
+pub mod Closing
+pub mod Ends
+pub mod FirstRoots
+pub mod Forests
+pub mod Lists
+pub mod Paths
+pub mod RulesFound
+pub mod RulesWalked
+pub mod Spread
+pub mod There
+pub mod Turned
+pub mod Turns
+pub mod Walked

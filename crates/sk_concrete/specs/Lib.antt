@@ -1,0 +1,7 @@
+pub mod Worlds
+pub mod Stops
+pub mod Found
+pub mod Meaning
+pub mod Trees
+pub mod Rules
+pub mod Calls
