@@ -1,4 +1,8 @@
-pub mod Cells
+pub mod Calls
+pub mod Kept
 pub mod Numbers
+pub mod Placed
+pub mod Points
 pub mod Plans
+pub mod Printed
 pub mod Promises

@@ -1,27 +1,71 @@
 -- The plan of each command.
-use Rattle.std.specs.Prelude.{ℕ, List, [], Option, codes, option_map, slice_get, unwrap_or, if◌then◌else◌}
-use Rattle.sk_bench.specs.declared.run.TheConstants.{LIMIT}
+use Rattle.std.specs.Prelude.{ℕ, List, [], ◌++◌, Option, Some, None, Result, Ok, Err, length, codes, decimal, option_map, slice_get, unwrap_or}
+use Rattle.sk_base.specs.Place.{place_at}
+use Rattle.sk_def.specs.declared.def.Def.{Def}
+use Rattle.sk_bench.specs.declared.accept.TheConstants.{LIMIT}
 use Rattle.sk_bench.specs.declared.kinds.Command.{Command}
-use Rattle.sk_bench.specs.declared.kinds.Command.TheVariants.{Run}
-use Rattle.sk_bench.specs.declared.status.Ending.TheVariants.{Definition}
-use Rattle.sk_bench.specs.Plan.{Plan, Write, Read, Unstated}
-use Rattle.sk_bench.specs.Smallest.{is_smallest}
+use Rattle.sk_bench.specs.declared.kinds.Command.TheVariants.{Check, Run}
+use Rattle.sk_bench.specs.declared.status.Ending.{Ending}
+use Rattle.sk_bench.specs.declared.status.Ending.TheVariants.{Done, Definition, Job}
+use Rattle.sk_bench.specs.Accepted.{accepted_definition, accepted_job, refused_at}
+use Rattle.sk_bench.specs.declared.job.Start.{Start}
+use Rattle.sk_bench.specs.Jobs.{ReadJob}
+use Rattle.sk_bench.specs.Outcomes.{Question}
+use Rattle.sk_bench.specs.Plan.{Plan, Write, Read, WriteResults}
+use Rattle.sk_bench.specs.Refused.{Refused, refused_line}
 use Rattle.sk_bench.specs.Words.{command_of}
 
 -- a word by its place
 abbrev pub word_at : List (List ℕ) → ℕ → List ℕ
 word_at words place = unwrap_or (slice_get words place) []
 
--- what `run` does after the text of its definition: it reads the job of this name. A definition that isn't one of the smallest
--- is refused before that
-abbrev pub run_on : List ℕ → List ℕ → Plan
-run_on job text =
-    if is_smallest text then Read job LIMIT (λ _. Unstated)
-    else Write Definition (codes "refused definition 1:1 Later\n")
+-- goes on with what was accepted of a text of this kind, or ends with the line of its refusal
+abbrev pub on_accepted : {A : Type 0} → Ending → List ℕ → (A → Plan) → Result A Refused → Plan
+on_accepted ending kind next (Ok accepted) = next accepted
+on_accepted ending kind next (Err refused) = Write ending (refused_line kind refused)
+
+-- goes on with the definition that a text is
+abbrev pub on_definition : (Def → Plan) → List ℕ → Plan
+on_definition next text = on_accepted Definition (codes "definition") next (accepted_definition text)
+
+-- the line for a good definition: how much it declares
+abbrev pub good_line : Def → List ℕ
+good_line d =
+    codes "good" ++ codes " sorts " ++ decimal (length d.sorts) ++ codes " constructors " ++ decimal (length d.cons) ++ codes " hooks " ++ decimal (length d.hooks)
+    ++ codes " rules " ++ decimal (length d.rules) ++ codes "\n"
+
+-- what `check` does with the text of its definition
+abbrev pub check_on : List ℕ → Plan
+check_on text = on_definition (λ d. Write Done (good_line d)) text
+
+-- goes on with the call of a job's start line, or ends with the line that the job has none, at the end of its text
+abbrev pub on_start : (Start → Plan) → List ℕ → Option Start → Plan
+on_start next text (Some start) = next start
+on_start next text None = Write Job (refused_line (codes "job") (refused_at (codes "NoStart") (place_at text (length text))))
+
+-- what is asked of a job's start line, to a depth
+abbrev pub question : Def → ℕ → ReadJob → Start → Question
+question d depth job start = record {
+  def = d;
+  nodes = job.nodes;
+  names = job.names;
+  call = record { hook = start.hook; point = start.point; ins = start.ins };
+  depth = depth;
+}
+
+-- what `run` does with the text of its job
+abbrev pub run_job : Def → ℕ → List ℕ → Plan
+run_job d depth text =
+    on_accepted Job (codes "job") (λ job. on_start (λ start. WriteResults (question d depth job start)) text job.start) (accepted_job d text)
+
+-- what `run` does with the text of its definition: it reads the job of this name
+abbrev pub run_on : List ℕ → ℕ → List ℕ → Plan
+run_on job depth text = on_definition (λ d. Read job LIMIT (run_job d depth)) text
 
 -- the plan of a command with these words
 unfoldable pub plan_of : List (List ℕ) → Command → Plan
-plan_of words (Run depth) = Read (word_at words 1) LIMIT (run_on (word_at words 2))
+plan_of words Check = Read (word_at words 1) LIMIT check_on
+plan_of words (Run depth) = Read (word_at words 1) LIMIT (run_on (word_at words 2) depth)
 
 -- the plan that the words ask for, if they are a command
 abbrev pub planned : List (List ℕ) → Option Plan

@@ -1,8 +1,13 @@
+pub mod Accepted
+pub mod Codes
 pub mod Commands
 pub mod Following
 pub mod Headline
+pub mod JobMeets
+pub mod JobText
+pub mod Jobs
+pub mod Outcomes
 pub mod Plan
-pub mod Replay
-pub mod Smallest
+pub mod Refused
 pub mod Status
 pub mod Words

@@ -3,13 +3,14 @@ use Rattle.std.specs.Prelude.{◌≡◌, ◌⊎◌, ℕ, ◌+◌, ◌<◌, ◌�
 use Rattle.sk_base.specs.Files.{Folder}
 use Rattle.sk_bench.specs.declared.status.Ending.{Ending}
 use Rattle.sk_bench.specs.declared.status.Ending.TheVariants as ended
+use Rattle.sk_bench.specs.Outcomes.{Question, IsResultsText}
 
--- the text that is written in the end, or the file whose turn it is, its limit, and what its bytes lead to. `Unstated` is an
--- end of which only that it is Done or Job is stated; it goes away once the texts of jobs and of results are stated
+-- the text that is written in the end, that of the results of a call, or the file whose turn it is, its limit, and what its
+-- bytes lead to
 pub data Plan : Type 0 where
   Write : Ending → List ℕ → Plan
   Read : List ℕ → ℕ → (List ℕ → Plan) → Plan
-  Unstated : Plan
+  WriteResults : Question → Plan
 
 -- these are the bytes of the file, as far as it tells them
 abbrev pub Agrees : Folder → List ℕ → List ℕ → Type 0
@@ -23,10 +24,6 @@ IsTold folder name bytes = folder.told name ≡ Some bytes
 abbrev pub IsSteady : Folder → List ℕ → List ℕ → Type 0
 IsSteady folder name bytes = IsTrue (folder.steady name) × (folder.told name ≡ Some bytes)
 
--- an ending that an unstated plan allows
-abbrev pub IsUnstated : Ending → Type 0
-IsUnstated ending = (ending ≡ ended.Done) ⊎ (ending ≡ ended.Job)
-
 -- the plan came to its end with this text: each file whose turn came had bytes within its limit, those that it tells where
 -- it tells them, and gave just so many; so the last one's number is what the selection now says, and `gave` is that of the
 -- file before
@@ -34,19 +31,19 @@ abbrev pub Ended : Folder → ℕ → ℕ → Plan → Ending → List ℕ → T
 Ended folder given gave (Write as_said said) ending text = (ending ≡ as_said) × (text ≡ said) × (given ≡ gave)
 Ended folder given gave (Read name limit next) ending text =
     (bytes : List ℕ) × Agrees folder name bytes × (length bytes ≤ limit) × Ended folder given (length bytes) (next bytes) ending text
-Ended folder given gave Unstated ending text = IsUnstated ending × (given ≡ gave)
+Ended folder given gave (WriteResults q) ending text = (ending ≡ ended.Done) × IsResultsText q text × (given ≡ gave)
 
 -- the files say that the plan ends with this text: each whose turn comes has bytes of which P holds, within its limit
 abbrev pub Ends : (List ℕ → List ℕ → Type 0) → Plan → Ending → List ℕ → Type 0
 Ends P (Write as_said said) ending text = (ending ≡ as_said) × (text ≡ said)
 Ends P (Read name limit next) ending text = (bytes : List ℕ) × P name bytes × (length bytes ≤ limit) × Ends P (next bytes) ending text
-Ends P Unstated ending text = ⊥
+Ends P (WriteResults q) ending text = (ending ≡ ended.Done) × IsResultsText q text
 
 -- the turn comes of a file of which Q holds, after files with bytes of which P holds, within their limits
 abbrev pub Reaches : (List ℕ → List ℕ → Type 0) → (List ℕ → ℕ → Type 0) → Plan → Type 0
 Reaches P Q (Write ending text) = ⊥
 Reaches P Q (Read name limit next) = Q name limit ⊎ ((bytes : List ℕ) × P name bytes × (length bytes ≤ limit) × Reaches P Q (next bytes))
-Reaches P Q Unstated = ⊥
+Reaches P Q (WriteResults q) = ⊥
 
 -- the file isn't steady
 abbrev pub IsShaky : Folder → List ℕ → ℕ → Type 0

@@ -5,7 +5,7 @@ use Rattle.std.specs.List.{list_all}
 use Rattle.std.specs.Str.{bytes_eq}
 use Rattle.std.specs.Str.Parse.{digits_value}
 use Rattle.sk_bench.specs.declared.kinds.Command.{Command}
-use Rattle.sk_bench.specs.declared.kinds.Command.TheVariants.{Run}
+use Rattle.sk_bench.specs.declared.kinds.Command.TheVariants.{Check, Run}
 
 -- the word has 1 to 10 digits, and nothing else
 abbrev pub is_number : List ℕ → Bool
@@ -15,7 +15,8 @@ is_number word = nat_le 1 (length word) && nat_le (length word) 10 && list_all i
 abbrev pub number_up_to : ℕ → List ℕ → Option ℕ
 number_up_to most word = if is_number word && nat_le (digits_value 10 word) most then Some (digits_value 10 word) else None
 
--- the command that the words are: `run DEF JOB N`
+-- the command that the words are: `check DEF` or `run DEF JOB N`
 abbrev pub command_of : List (List ℕ) → Option Command
+command_of (word ∷ _ ∷ []) = if bytes_eq word (codes "check") then Some Check else None
 command_of (word ∷ _ ∷ _ ∷ depth ∷ []) = if bytes_eq word (codes "run") then option_map Run (number_up_to 64 depth) else None
 command_of _ = None

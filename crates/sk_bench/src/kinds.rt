@@ -3,6 +3,8 @@
 /// What the words ask for. The names of files stay in the words.
 #[derive(Clone, Copy, Debug, PartialEq, Eq)]
 pub enum Command {
+    /// `check DEF`: whether the definition is well sorted, and how much it declares.
+    Check,
     /// `run DEF JOB N`: the results of the job's start line that have a derivation of height at most N.
     Run {
         /// The greatest height of a derivation.

@@ -2,18 +2,25 @@
 //! reads, each as the ones before say, and what it then writes. The program `skel` stands on it.
 #![tactic(auto)]
 
+mod accept;
+mod check;
+mod codes;
 mod job;
+mod job_calls;
+mod job_lines;
+mod job_marks;
+mod job_text;
 mod kinds;
 mod print;
-mod program;
-mod replay;
-mod results;
+mod refused;
 mod run;
-mod smallest;
 mod status;
 mod top;
 mod words;
 
+pub use accept::faults_are_placed;
+pub use job::{Job, JobError, JobFault, Start};
+pub use job_text::read_job;
 pub use kinds::Command;
 pub use status::Status;
 pub use top::workbench;

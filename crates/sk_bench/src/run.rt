@@ -1,21 +1,24 @@
 //! The command `run`.
 ghost use Rattle.std.specs.Prelude.{◌≡◌, ◌≤◌, length, codes};
 ghost use Rattle.sk_base.specs.Causes.{NeverFalls};
-ghost use Rattle.sk_bench.specs.Plan.{Write, Read, Unstated};
-ghost use Rattle.sk_bench.specs.Commands.{run_on};
+ghost use Rattle.sk_base.specs.Place.{place_at};
+ghost use Rattle.sk_term.specs.Program.{IsProgramOf};
+ghost use Rattle.sk_bench.specs.Accepted.{refused_at};
+ghost use Rattle.sk_bench.specs.Refused.{refused_of};
+ghost use Rattle.sk_bench.specs.Plan.{Read, WriteResults};
+ghost use Rattle.sk_bench.specs.Commands.{run_job, run_on, question};
+ghost use Rattle.sk_bench.specs.JobText.{seen};
 ghost use Rattle.sk_bench.specs.Following.{Follows, Prepares};
 
-use crate::job::{Job, read_job};
-use crate::print::put_results;
-use crate::results::Search;
-use crate::smallest::read_smallest;
+use crate::accept::{LIMIT, accept_definition, accept_job};
+use crate::print::results_text;
+use crate::refused::{Refusal, Unaccepted, refuse};
 use crate::status::{Ending, Output, Stop};
-use sk_base::{Files, read_file};
-use sk_def::Def;
+use crate::{Job, Start};
+use sk_base::{Files, place_of, read_file};
+use sk_concrete::results;
+use sk_sort::Checked;
 use std::alloc::Global;
-
-/// The greatest number of bytes of a definition or a job.
-const LIMIT: usize = 4_194_304;
 
 /// Reads a definition and a job, and makes what is written of them.
 pub(crate) fn run<F: Files>(
@@ -25,7 +28,7 @@ pub(crate) fn run<F: Files>(
     job: &str,
     depth: u32,
 ) -> Result<Output, Stop>
-    ensures follows { Follows (F.folder files.old) (F.selection files.old) (F.selection files.new) (F.faults files.old) (F.faults files.new) (Read definition.now LIMIT (run_on job.now)) result }
+    ensures follows { Follows (F.folder files.old) (F.selection files.old) (F.selection files.new) (F.faults files.old) (F.faults files.new) (Read definition.now LIMIT (run_on job.now depth)) result }
     ensures folder { F.folder files.new ≡ F.folder files.old }
     ensures count { NeverFalls (F.faults files.old) (F.faults files.new) }
 {
@@ -42,70 +45,85 @@ fn run_definition<F: Files>(
     depth: u32,
 ) -> Result<Output, Stop>
     requires { length text.now ≤ LIMIT }
-    ensures follows { Follows (F.folder files.old) (F.selection files.old) (F.selection files.new) (F.faults files.old) (F.faults files.new) (run_on job.now text.now) result }
+    ensures follows { Follows (F.folder files.old) (F.selection files.old) (F.selection files.new) (F.faults files.old) (F.faults files.new) (run_on job.now depth text.now) result }
     ensures folder { F.folder files.new ≡ F.folder files.old }
     ensures count { NeverFalls (F.faults files.old) (F.faults files.new) }
 {
-    match read_smallest(alloc, text)? {
-        Some(checked) => run_job(alloc, files, checked.def(), job, depth),
-        None => refuse_definition(alloc),
+    match accept_definition(alloc, text) {
+        Ok(checked) => read_job_of(alloc, files, &checked, job, depth),
+        Err(Unaccepted::Refused(refusal)) => {
+            refuse(alloc, Ending::Definition, "definition", refusal)
+        }
+        Err(Unaccepted::NoMemory) => Err(Stop::NoMemory),
     }
 }
 
 /// Reads the job, and makes what is written.
-fn run_job<F: Files>(
+fn read_job_of<F: Files>(
     alloc: Global,
     files: &mut F,
-    def: &Def,
+    checked: &Checked,
     job: &str,
     depth: u32,
 ) -> Result<Output, Stop>
-    ensures follows { Follows (F.folder files.old) (F.selection files.old) (F.selection files.new) (F.faults files.old) (F.faults files.new) (Read job.now LIMIT (λ _. Unstated)) result }
+    ensures follows { Follows (F.folder files.old) (F.selection files.old) (F.selection files.new) (F.faults files.old) (F.faults files.new) (Read job.now LIMIT (run_job checked.now depth)) result }
     ensures folder { F.folder files.new ≡ F.folder files.old }
     ensures count { NeverFalls (F.faults files.old) (F.faults files.new) }
 {
     let text = read_file(alloc, files, job, LIMIT)?;
-    run_text(alloc, def, text.as_slice(), depth)
+    run_text(alloc, checked, text.as_slice(), depth)
 }
 
 /// Makes what is written of the text of the job.
-fn run_text(alloc: Global, def: &Def, text: &[u8], depth: u32) -> Result<Output, Stop>
+fn run_text(alloc: Global, checked: &Checked, text: &[u8], depth: u32) -> Result<Output, Stop>
     requires { length text.now ≤ LIMIT }
-    ensures { Prepares Unstated result }
+    ensures { Prepares (run_job checked.now depth text.now) result }
 {
-    let Some(Job { nodes, start }) = read_job(alloc, def, text)? else {
-        return refuse_job(alloc);
-    };
-    let search = Search {
+    match accept_job(alloc, checked.def(), text) {
+        Ok(job) => match &job.start {
+            Some(start) => run_start(alloc, checked, &job, start, depth),
+            None => refuse(alloc, Ending::Job, "job", no_start(text)),
+        },
+        Err(Unaccepted::Refused(refusal)) => refuse(alloc, Ending::Job, "job", refusal),
+        Err(Unaccepted::NoMemory) => Err(Stop::NoMemory),
+    }
+}
+
+/// The refusal of a job without a start line, at the end of its text.
+fn no_start(text: &[u8]) -> Refusal
+    requires { length text.now ≤ LIMIT }
+    ensures { refused_of result ≡ refused_at (codes "NoStart") (place_at text.now (length text.now)) }
+{
+    Refusal {
+        code: "NoStart",
+        place: place_of(text, text.len()),
+    }
+}
+
+/// Makes the text of the results of a start line.
+fn run_start(
+    alloc: Global,
+    checked: &Checked,
+    job: &Job,
+    start: &Start,
+    depth: u32,
+) -> Result<Output, Stop>
+    requires program { IsProgramOf checked.now job.now.arena }
+    requires over { job.now.arena.names ≡ length job.now.names }
+    ensures { Prepares (WriteResults (question checked.now depth (seen job.now) start.now)) result }
+{
+    let found = results(
         alloc,
-        def,
-        nodes: nodes.as_slice(),
-    };
-    let answer = search.result(depth, start)?;
-    let mut text = Vec::new(alloc);
-    put_results(&mut text, def, &answer)?;
+        checked,
+        &job.arena,
+        start.hook,
+        start.point,
+        &start.ins,
+        depth,
+    )?;
+    let text = results_text(alloc, checked.def(), &job.names, &found)?;
     Ok(Output {
         ending: Ending::Done,
         text,
-    })
-}
-
-/// The line for a definition of a form that isn't built yet.
-fn refuse_definition(alloc: Global) -> Result<Output, Stop>
-    ensures { Prepares (Write Ending.Definition (codes "refused definition 1:1 Later\n")) result }
-{
-    Ok(Output {
-        ending: Ending::Definition,
-        text: Vec::from_slice(alloc, b"refused definition 1:1 Later\n")?,
-    })
-}
-
-/// The line for a job of a form that isn't built yet.
-fn refuse_job(alloc: Global) -> Result<Output, Stop>
-    ensures { Prepares Unstated result }
-{
-    Ok(Output {
-        ending: Ending::Job,
-        text: Vec::from_slice(alloc, b"refused job 1:1 Later\n")?,
     })
 }

@@ -9,6 +9,7 @@ ghost use Rattle.sk_bench.specs.Words.{command_of};
 ghost use Rattle.sk_bench.specs.Following.{Follows};
 ghost use Rattle.sk_bench.specs.Headline.{IsOneOf, Writes, WritesPrefix, EndsAsTold, StopsAsTold, IsComplete, IsCompleteTooLong};
 
+use crate::check::check;
 use crate::run::run;
 use crate::status::{Output, Stop};
 use crate::{Command, Status, command};
@@ -76,6 +77,7 @@ fn produce<F: Files>(
     ensures count { NeverFalls (F.faults files.old) (F.faults files.new) }
 {
     match command {
+        Command::Check => check(alloc, files, word(words, 1)),
         Command::Run { depth } => run(alloc, files, word(words, 1), word(words, 2), depth),
     }
 }

@@ -10,11 +10,13 @@ use crate::Command;
 /// The greatest depth of `run`.
 const MOST_DEPTH: u32 = 64;
 
-/// The command that the words are, none where they fit no row: `run DEF JOB N`, where N has 1 to 10 digits and is at most 64.
+/// The command that the words are, none where they fit no row: `check DEF`, or `run DEF JOB N`, where N has 1 to 10 digits and
+/// is at most 64.
 pub fn command(words: &[String]) -> Option<Command>
     ensures { result ≡ command_of (map string_bytes words.now) }
 {
     match words {
+        [word, _] if word.as_str() == "check" => Some(Command::Check),
         [word, _, _, depth] if word.as_str() == "run" => run(depth.as_str()),
         _ => None,
     }

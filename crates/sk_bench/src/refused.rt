@@ -1,0 +1,55 @@
+//! Refused texts, and the line that says so.
+ghost use Rattle.std.specs.Prelude.{◌≡◌, ◌++◌, decimal, OnOk};
+ghost use Rattle.sk_bench.specs.Following.{Prepares};
+ghost use Rattle.sk_bench.specs.Plan.{Write};
+ghost use Rattle.sk_bench.specs.Refused.{refused_of, refused_line};
+
+use crate::status::{Ending, Output, Stop};
+use itoa::Buffer;
+use sk_base::{NoMemory, Place};
+use sk_value::put_bytes;
+use std::alloc::Global;
+
+/// Why a text is refused: its error's name, and the error's place.
+#[derive(Clone, Copy)]
+pub(crate) struct Refusal {
+    pub(crate) code: &'static str,
+    pub(crate) place: Place,
+}
+
+/// Why a text isn't accepted.
+#[derive(Clone, Copy)]
+pub(crate) enum Unaccepted {
+    Refused(Refusal),
+    NoMemory,
+}
+
+/// Appends a number.
+pub(crate) fn put_count(out: &mut Vec<u8>, count: usize) -> Result<(), NoMemory>
+    ensures { OnOk result (out.new.items ≡ out.old.items ++ decimal count) }
+{
+    let mut buffer = Buffer::new();
+    put_bytes(out, buffer.format(count).as_bytes())
+}
+
+/// The line for a refused text of a kind, as the end of a command.
+pub(crate) fn refuse(
+    alloc: Global,
+    ending: Ending,
+    kind: &str,
+    refusal: Refusal,
+) -> Result<Output, Stop>
+    ensures { Prepares (Write ending (refused_line kind.now (refused_of refusal))) result }
+{
+    let mut text = Vec::new(alloc);
+    put_bytes(&mut text, b"refused ")?;
+    put_bytes(&mut text, kind.as_bytes())?;
+    put_bytes(&mut text, b" ")?;
+    put_count(&mut text, refusal.place.line as usize)?;
+    put_bytes(&mut text, b":")?;
+    put_count(&mut text, refusal.place.column as usize)?;
+    put_bytes(&mut text, b" ")?;
+    put_bytes(&mut text, refusal.code.as_bytes())?;
+    put_bytes(&mut text, b"\n")?;
+    Ok(Output { ending, text })
+}
