@@ -148,6 +148,31 @@ pub(crate) fn with_place(text: &[u8], tokens: &[Token], refused: Refused<TableEr
     }
 }
 
+/// Reads one abstract tuple as `read_abs_tuple` does, for a reader that goes on after it: a refusal has the number of its
+/// token.
+pub fn take_abs_tuple<D: NumDom>(
+    alloc: Global,
+    sorts: &FlowSorts,
+    names: &mut Names,
+    text: &[u8],
+    tokens: &[Token],
+    from: usize,
+) -> Result<(AbsTuple<D>, usize), Refused<TableError>>
+    requires few { length sorts.now ≤ 4 }
+    requires tokens { tokens_of text.now ≡ Ok tokens.now }
+    requires place { from ≤ length tokens.now }
+    ensures read { Gives (λ read. (record { tuple = read.0; names = names.new }, read.1)) refused_of result
+        (read_tuple D.domain D.texts false sorts.now names.old from (drop from (symbols text.now tokens.now))) }
+    ensures sorts { IfOk result (λ read. IsTrue (has_sorts (length names.new) sorts.now read.0)) }
+    ensures place { IfOk result (λ read. (from < read.1) × (read.1 ≤ length tokens.now)) }
+    ensures grown { HasGrown names.old names.new }
+{
+    let naming = Naming::Adding(mem::replace(names, Names::new(alloc)));
+    let (read, naming) = read_at(alloc, sorts, text, tokens, from, naming);
+    *names = naming.added(alloc);
+    read
+}
+
 /// Reads one abstract tuple of these sorts, at most 4, from a place of the tokens on, and answers it with the place of
 /// the next token. A store has one cell per name that stands afterwards; the names in it are added to the names, also
 /// those before a refusal. A refusal has the line and the column of its token: `Unexpected` where the token fits no
@@ -171,10 +196,7 @@ pub fn read_abs_tuple<D: NumDom>(
     ensures place { IfOk result (λ read. (from < read.1) × (read.1 ≤ length tokens.now)) }
     ensures grown { HasGrown names.old names.new }
 {
-    let naming = Naming::Adding(mem::replace(names, Names::new(alloc)));
-    let (read, naming) = read_at(alloc, sorts, text, tokens, from, naming);
-    *names = naming.added(alloc);
-    match read {
+    match take_abs_tuple(alloc, sorts, names, text, tokens, from) {
         Ok(read) => Ok(read),
         Err(refused) => Err(with_place(text, tokens, refused)),
     }
