@@ -23,7 +23,7 @@ use Rattle.sk_deftext.specs.declared.source.Source.{Source}
 use Rattle.sk_deftext.proofs.Standing.{Standing, RulesPlaced}
 use Rattle.sk_deftext.proofs.Kept.{Kept, step_keeps}
 
-at_first : Standing nothing
+pub at_first : Standing nothing
 at_first = record {
   definition = record {
     few_sorts = omega arith;

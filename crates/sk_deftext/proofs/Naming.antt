@@ -1,7 +1,7 @@
 -- The names of a definition that was read.
-use Rattle.std.proofs.Common.{◌≡◌, ℕ, zero, suc, ◌+◌, ◌<◌, ◌≤◌, ◌==◌, eqb, nat_lt, Bool, true, false, cond, not, ◌||◌, if◌then◌else◌, List, [], ◌∷◌, ◌++◌, length, map, refl, sym, ap, subst, ◌∙◌, arith, length-append, Option, Some, None, Result, Ok, Err, inl, inr, ℤ, pos}
+use Rattle.std.proofs.Common.{◌≡◌, ℕ, zero, suc, ◌+◌, ◌<◌, ◌≤◌, eqb, nat_lt, Bool, true, false, cond, not, ◌||◌, if◌then◌else◌, List, [], ◌∷◌, ◌++◌, length, map, refl, sym, ap, subst, ◌∙◌, arith, length-append, Option, Some, None, Ok, Err, inl, inr, ℤ, pos}
 use Rattle.std.specs.Prelude.{codes, position, All, IfSome, is_some, option_map}
-use Rattle.std.specs.List.{position_or_len, list_all, AllByRecursion}
+use Rattle.std.specs.List.{position_or_len, AllByRecursion}
 use Rattle.std.specs.Str.{bytes_eq}
 use Rattle.std.specs.Ordering.{int_eq}
 use Rattle.std.proofs.lemmas.Bool.{lt-ltb, ltb-true, or_parts, ne_eqb, cases_lt}
@@ -10,10 +10,9 @@ use Rattle.std.proofs.lemmas.Cmp.{nat_list_eq_equiv}
 use Rattle.std.proofs.lemmas.List.{map-append}
 use Rattle.std.proofs.lemmas.List.Elements.{All-nil, All-push, All-append, All-cons}
 use Rattle.std.proofs.lemmas.List.Folds.{position_or_len_push}
-use Rattle.sk_base.specs.Answer.{◌>>=◌}
 use Rattle.sk_base.specs.Names.{place_of_name, with_name}
 use Rattle.sk_base.specs.declared.flow.FlowSort.{FlowSort}
-use Rattle.sk_lex.specs.Run.{Turn, run, ended}
+use Rattle.sk_lex.specs.Run.{Turn}
 use Rattle.sk_lex.specs.Symbols.{Symbol, Named, Plain, symbols, word_of, number_of, is_open, is_close, is_comma, is_colon, is_arrow, is_left_brace, is_right_brace}
 use Rattle.sk_lex.specs.Tokens.{tokens_of}
 use Rattle.sk_lex.specs.declared.token.Token.{Token}
@@ -58,6 +57,7 @@ use Rattle.sk_deftext.specs.declared.bone.Opening.TheVariants as opening
 use Rattle.sk_deftext.specs.declared.word.Keyword.{Keyword}
 use Rattle.sk_deftext.specs.declared.word.Keyword.TheVariants as keyword
 use Rattle.sk_deftext.proofs.Found.{con_place, hook_place, found_parts}
+use Rattle.sk_deftext.proofs.Reruns.{symbols_keep}
 use Rattle.sk_deftext.proofs.WordsOf.{WordSymbol, text_words}
 
 -- One name more.
@@ -599,52 +599,9 @@ module _ (draft : Draft) (s : Naming draft) where
 
 -- What is read of words has names.
 
-abbrev Answer : Type 0
-Answer = Result (Draft × ℕ) (DefError × ℕ)
-
-abbrev state_in : Draft → Answer → Draft
-state_in other (Ok (draft, at)) = draft
-state_in other (Err error) = other
-
-abbrev read_to : Draft → ℕ → Answer
-read_to draft at = Ok (draft, at)
-
-same_state : (draft end : Draft) (at place : ℕ) → Naming draft → read_to draft at ≡ read_to end place → Naming end
-same_state draft end at place s e = subst Naming (ap (state_in draft) e) s
-
-abbrev ended_at : Bool → Draft → ℕ → Answer
-ended_at b draft at = if b then read_to draft at else Err (Unexpected, at)
-
-ends_keep : (b : Bool) (draft end : Draft) (at place : ℕ) → Naming draft → ended_at b draft at ≡ Ok (end, place) → Naming end
-ends_keep true draft end at place s e = same_state draft end at place s e
-ends_keep false draft end at place s e = absurd (cc e)
-
-turn_keeps : (r : Met) (at : ℕ) (below : List Expected) (left : List Symbol) (end : Draft) (place : ℕ) → Kept r →
-    ((turn : Turn Expected Draft) → Naming turn.state → run definition_rules turn.more (at + 1) (turn.expected ++ below) turn.state left ≡ Ok (end, place) → Naming end) →
-    (at_symbol at r >>= λ turn. run definition_rules turn.more (at + 1) (turn.expected ++ below) turn.state left) ≡ Ok (end, place) → Naming end
-turn_keeps (Ok turn) at below left end place k on e = on turn k.is e
-turn_keeps (Err error) at below left end place k on e = absurd (cc e)
-
-run_keeps : (skip at : ℕ) (awaited : List Expected) (draft : Draft) (left : List Symbol) (end : Draft) (place : ℕ) → AllByRecursion WordSymbol left → Naming draft →
-    run definition_rules skip at awaited draft left ≡ Ok (end, place) → Naming end
-run_keeps (suc skip) at awaited draft [] end place w s e = same_state draft end at place s e
-run_keeps (suc skip) at awaited draft (symbol ∷ left) end place w s e = run_keeps skip (at + 1) awaited draft left end place w.1 s e
-run_keeps zero at [] draft left end place w s e = same_state draft end at place s e
-run_keeps zero at (one ∷ awaited) draft [] end place w s e = ends_keep (list_all read.may_end (one ∷ awaited)) draft end at place s e
-run_keeps zero at (one ∷ awaited) draft (symbol ∷ left) end place w s e =
-    turn_keeps (step draft one at symbol) at awaited left end place (step_keeps draft s one at symbol w.0)
-    (λ (turn : Turn Expected Draft) (k : Naming turn.state) (f : run definition_rules turn.more (at + 1) (turn.expected ++ awaited) turn.state left ≡ Ok (end, place)).
-    run_keeps turn.more (at + 1) (turn.expected ++ awaited) turn.state left end place w.1 k f) e
-
-abbrev whole_at : Bool → Draft → ℕ → Result Draft (DefError × ℕ)
-whole_at b draft at = if b then Ok draft else Err (Unexpected, at)
-
-whole_keeps : (count : ℕ) (r : Answer) (end : Draft) → ((last : Draft) (place : ℕ) → r ≡ Ok (last, place) → Naming last) → ended definition_rules count r ≡ Ok end → Naming end
-whole_keeps count (Ok (last, place)) end k e = by (place == count) e where
-  by : (b : Bool) → whole_at b last place ≡ Ok end → Naming end
-  by true f = let same : last ≡ end = cc f in subst Naming same (k last place refl)
-  by false f = absurd (cc f)
-whole_keeps count (Err error) end k e = absurd (cc e)
+kept_turn : (met : Met) (turn : Turn Expected Draft) → Kept met → met ≡ Ok turn → Naming turn.state
+kept_turn (Ok first) turn k e = let same : first ≡ turn = cc e in subst (λ (t : Turn Expected Draft). Naming t.state) same k.is
+kept_turn (Err error) turn k e = absurd (cc e)
 
 at_first : Naming nothing
 at_first = record {
@@ -667,13 +624,12 @@ at_first = record {
   unclosed_short = tt;
 }
 
-pub symbols_have_names : (ss : List Symbol) (draft : Draft) → AllByRecursion WordSymbol ss → read_symbols ss ≡ Ok draft → HasNames draft.def
-unfolding read_symbols
+symbols_have_names : (ss : List Symbol) (draft : Draft) → AllByRecursion WordSymbol ss → read_symbols ss ≡ Ok draft → HasNames draft.def
 symbols_have_names ss draft w e =
-    let kept : Naming draft = whole_keeps (length ss) (run definition_rules 0 0 (expected.Skel ∷ expected.Version ∷ expected.Item ∷ []) nothing ss) draft
-    (λ (last : Draft) (place : ℕ) (f : run definition_rules 0 0 (expected.Skel ∷ expected.Version ∷ expected.Item ∷ []) nothing ss ≡ Ok (last, place)).
-    run_keeps 0 0 (expected.Skel ∷ expected.Version ∷ expected.Item ∷ []) nothing ss last place w at_first f) e in
-    kept.named
+    symbols_keep WordSymbol (λ (awaited : List Expected) (d : Draft). Naming d) (λ (d : Draft). HasNames d.def) (λ (awaited : List Expected) (d : Draft) (s : Naming d). s.named)
+    (λ (one : Expected) (awaited : List Expected) (d : Draft) (at : ℕ) (symbol : Symbol) (turn : Turn Expected Draft) (word : WordSymbol symbol) (s : Naming d) (m : step d one at symbol ≡ Ok turn).
+    kept_turn (step d one at symbol) turn (step_keeps d s one at symbol word) m)
+    ss draft w at_first e
 
 pub text_has_names : (text : List ℕ) (ts : List Token) (draft : Draft) → tokens_of text ≡ Ok ts → read_symbols (symbols text ts) ≡ Ok draft → HasNames draft.def
 text_has_names text ts draft t e = symbols_have_names (symbols text ts) draft (text_words text ts t) e

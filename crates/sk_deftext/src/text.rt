@@ -1,13 +1,14 @@
 //! Reading the text of a definition.
 
-ghost use Rattle.std.specs.Prelude.{◌≡◌, ◌-◌, ◌<◌, ◌^◌, length, Ok, IfOk};
+ghost use Rattle.std.specs.Prelude.{◌≡◌, ◌-◌, ◌<◌, ◌^◌, length, All, Ok, IfOk};
 ghost use Rattle.sk_base.specs.Answer.{Gives};
 ghost use Rattle.sk_lex.specs.Tokens.{tokens_of};
 ghost use Rattle.sk_def.specs.Fits.{DefinitionFits};
+ghost use Rattle.sk_deftext.specs.Canonical.{definition_text};
 ghost use Rattle.sk_deftext.specs.Faults.{refusal_of};
 ghost use Rattle.sk_deftext.specs.Places.{PlacesFit};
 ghost use Rattle.sk_deftext.specs.Texts.{read_definition, source_of};
-ghost use Rattle.sk_deftext.specs.Written.{HasNames};
+ghost use Rattle.sk_deftext.specs.Written.{HasNames, IsInOrder, Says};
 
 use crate::draft::Draft;
 use crate::fault::DefFault;
@@ -58,6 +59,12 @@ pub fn read_def(alloc: Global, text: &[u8]) -> Result<Source, DefFault>
 
     // Its names are different words that are no keywords, and its lists are short.
     ensures named { IfOk result (λ source. HasNames source.def) }
+
+    // In each rule the variables are numbered by their first appearance, and a branch bone has at most 8 branches.
+    ensures in_order { IfOk result (λ source. All IsInOrder source.def.rules) }
+
+    // Reading its canonical text gives the definition again.
+    ensures again { IfOk result (λ source. Says (definition_text source.def) source.def) }
 {
     let tokens = match tokens(alloc, text) {
         Ok(tokens) => tokens,
