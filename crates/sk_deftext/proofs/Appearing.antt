@@ -5,19 +5,19 @@ use Rattle.std.proofs.lemmas.List.{append-nil}
 use Rattle.sk_base.specs.Names.{place_of_name, with_name}
 use Rattle.sk_def.specs.Layout.{BonesFit}
 use Rattle.sk_def.specs.declared.ids.Var.{Var}
-use Rattle.sk_def.specs.declared.bone.Bone.{Bone}
 use Rattle.sk_def.specs.declared.bone.Bone.TheVariants.{Either}
 use Rattle.sk_def.specs.declared.bone.Target.{Target}
 use Rattle.sk_def.specs.declared.bone.Target.TheVariants.{Own, Sub}
 use Rattle.sk_deftext.specs.Bodies.{bone_of}
 use Rattle.sk_deftext.specs.Written.{Appear, target_vars}
+use Rattle.sk_deftext.specs.declared.draft.Draft.{Draft}
 use Rattle.sk_deftext.specs.declared.draft.OpenBone.{OpenBone}
 use Rattle.sk_deftext.specs.declared.draft.BoneHead.{BoneHead}
 use Rattle.sk_deftext.specs.declared.draft.BoneHead.TheVariants as head
 use Rattle.sk_deftext.proofs.Found.{Comes}
 use Rattle.sk_deftext.proofs.Moves.{one_more, position_below}
 use Rattle.sk_deftext.proofs.Traces.{vars_of, both_vars, inner_more, branch_vars}
-use Rattle.sk_deftext.proofs.Phases.{target_part, unclosed_vars, trace, is_call}
+use Rattle.sk_deftext.proofs.Phases.{target_part, came, is_call}
 
 -- one variable more, which has come before or is the next
 pub appear_push : (n m k : ℕ) (vs : List Var) (v : Var) → Appear n vs m → Comes m v k → Appear n (vs ++ v ∷ []) k
@@ -45,89 +45,61 @@ no_target None = refl
 no_target (Some (head.Filter filter)) = refl
 no_target (Some (head.Hook hook)) = refl
 
+one_vars : (first : BoneHead) (args : List Var) (target : Target) (list : List Var) → vars_of (bone_of first args target list ∷ []) ≡ args ++ (target_part (Some first) target ++ list)
+one_vars (head.Filter filter) args target list = ap (λ vs. args ++ vs) (append-nil list)
+one_vars (head.Hook hook) args target list = ap (λ vs. args ++ (target_vars target ++ vs)) (append-nil list)
+
 -- Each change of the lists keeps what came.
-module _ (terms inputs : List Var) (unclosed : List OpenBone) (bones : List Bone) (args : List Var) (opened : Option BoneHead) (target : Target) (list : List Var) where
+module _ (draft : Draft) where
   -- a variable is listed
-  pub with_entry : (v : Var) → trace terms inputs unclosed bones args opened target (list ++ v ∷ []) ≡ trace terms inputs unclosed bones args opened target list ++ v ∷ []
+  pub with_entry : (v : Var) → came draft ++ v ∷ [] ≡ came (record draft { listed = draft.listed ++ v ∷ [] })
   with_entry v = simp append_assoc
 
   -- a hook bone has its target
-  pub with_aim : (v : Var) → target ≡ Own → list ≡ [] → is_call opened ≡ true → trace terms inputs unclosed bones args opened (Sub v) list ≡ trace terms inputs unclosed bones args opened target list ++ v ∷ []
-  with_aim v e f c = by opened c ∙ ap (λ t. trace terms inputs unclosed bones args opened t list ++ v ∷ []) (sym e) where
-    by : (first : Option BoneHead) → is_call first ≡ true → trace terms inputs unclosed bones args first (Sub v) list ≡ trace terms inputs unclosed bones args first Own list ++ v ∷ []
+  pub with_aim : (v : Var) → draft.target ≡ Own → draft.listed ≡ [] → is_call draft.opened ≡ true → came draft ++ v ∷ [] ≡ came (record draft { target = Sub v })
+  with_aim v e f c = ap (λ t. came (record draft { target = t }) ++ v ∷ []) e ∙ by draft.opened c where
+    by : (first : Option BoneHead) → is_call first ≡ true → came (record draft { opened = first; target = Own }) ++ v ∷ [] ≡ came (record draft { opened = first; target = Sub v })
     by None c = absurd (cc c)
     by (Some (head.Filter filter)) c = absurd (cc c)
-    by (Some (head.Hook hook)) c =
-        ap (λ vs. terms ++ (inputs ++ (unclosed_vars unclosed ++ (vars_of bones ++ (args ++ (v ∷ vs)))))) f
-        ∙ (simp append_assoc)
-        ∙ ap (λ vs. (terms ++ (inputs ++ (unclosed_vars unclosed ++ (vars_of bones ++ (args ++ vs))))) ++ v ∷ []) (sym f)
+    by (Some (head.Hook hook)) c = rw f (simp append_assoc)
 
   -- a bone begins
-  pub with_head : (first : Option BoneHead) → opened ≡ None → trace terms inputs unclosed bones args opened target list ≡ trace terms inputs unclosed bones args first Own list
-  with_head first e =
-      ap (λ o. trace terms inputs unclosed bones args o target list) e
-      ∙ ap (λ vs. terms ++ (inputs ++ (unclosed_vars unclosed ++ (vars_of bones ++ (args ++ (vs ++ list)))))) (sym (no_target first))
+  pub with_head : (first : Option BoneHead) → draft.opened ≡ None → came draft ≡ came (record draft { opened = first; target = Own })
+  with_head first e = rw (e, no_target first) refl
 
   -- a list ends: the terms, the inputs, the arguments of a bone
-  pub as_terms : terms ≡ [] → inputs ≡ [] → unclosed ≡ [] → bones ≡ [] → args ≡ [] → opened ≡ None →
-      trace terms inputs unclosed bones args opened target list ≡ trace list inputs unclosed bones args opened target []
-  as_terms a b c d e f = rw (a, b, c, d, e, f) (sym (append-nil list))
+  pub as_terms : draft.terms ≡ [] → draft.rule_inputs ≡ [] → draft.unclosed ≡ [] → draft.bones ≡ [] → draft.bone_args ≡ [] → draft.opened ≡ None →
+      came draft ≡ came (record draft { terms = draft.listed; listed = [] })
+  as_terms a b c d e f = rw (a, b, c, d, e, f) (sym (append-nil draft.listed))
 
-  pub as_inputs : inputs ≡ [] → unclosed ≡ [] → bones ≡ [] → args ≡ [] → opened ≡ None →
-      trace terms inputs unclosed bones args opened target list ≡ trace terms list unclosed bones args opened target []
-  as_inputs b c d e f = rw (b, c, d, e, f) (ap (λ vs. terms ++ vs) (sym (append-nil list)))
+  pub as_inputs : draft.rule_inputs ≡ [] → draft.unclosed ≡ [] → draft.bones ≡ [] → draft.bone_args ≡ [] → draft.opened ≡ None →
+      came draft ≡ came (record draft { rule_inputs = draft.listed; listed = [] })
+  as_inputs a b c d e = rw (a, b, c, d, e, append-nil draft.listed) refl
 
-  pub as_args : args ≡ [] → target ≡ Own → trace terms inputs unclosed bones args opened target list ≡ trace terms inputs unclosed bones list opened target []
-  as_args a e =
-      ap (λ vs. terms ++ (inputs ++ (unclosed_vars unclosed ++ (vars_of bones ++ (vs ++ (target_part opened target ++ list)))))) a
-      ∙ ap (λ vs. terms ++ (inputs ++ (unclosed_vars unclosed ++ (vars_of bones ++ (vs ++ list))))) (ap (target_part opened) e ∙ no_target opened)
-      ∙ ap (λ vs. terms ++ (inputs ++ (unclosed_vars unclosed ++ (vars_of bones ++ vs)))) (sym (append-nil list))
-      ∙ ap (λ vs. terms ++ (inputs ++ (unclosed_vars unclosed ++ (vars_of bones ++ (list ++ (vs ++ []))))))
-      (sym (ap (target_part opened) e ∙ no_target opened))
+  pub as_args : draft.bone_args ≡ [] → draft.target ≡ Own → came draft ≡ came (record draft { bone_args = draft.listed; listed = [] })
+  as_args a e = rw (a, e, no_target draft.opened, append-nil draft.listed) refl
 
-  one_vars : (first : BoneHead) → vars_of (bone_of first args target list ∷ []) ≡ args ++ (target_part (Some first) target ++ list)
-  one_vars (head.Filter filter) = ap (λ vs. args ++ vs) (append-nil list)
-  one_vars (head.Hook hook) = ap (λ vs. args ++ (target_vars target ++ vs)) (append-nil list)
-
-  -- a bone ends, a branch bone begins
-  pub bone_ends : {hooks vars n : ℕ} (first : BoneHead) → BonesFit hooks vars n bones → opened ≡ Some first →
-      trace terms inputs unclosed bones args opened target list ≡ trace terms inputs unclosed (bones ++ bone_of first args target list ∷ []) [] None target []
+  -- a bone ends
+  pub bone_ends : {hooks vars n : ℕ} (first : BoneHead) → BonesFit hooks vars n draft.bones → draft.opened ≡ Some first →
+      came draft ≡ came (record draft { bones = draft.bones ++ bone_of first draft.bone_args draft.target draft.listed ∷ []; opened = None; bone_args = []; listed = [] })
   bone_ends first p e =
-      ap (λ o. trace terms inputs unclosed bones args o target list) e
-      ∙ ap (λ vs. terms ++ (inputs ++ (unclosed_vars unclosed ++ (vars_of bones ++ vs)))) (sym (one_vars first))
-      ∙ ap (λ vs. terms ++ (inputs ++ (unclosed_vars unclosed ++ vs))) (sym (both_vars bones (bone_of first args target list ∷ []) p))
-      ∙ ap (λ vs. terms ++ (inputs ++ (unclosed_vars unclosed ++ vs))) (sym (append-nil (vars_of (bones ++ bone_of first args target list ∷ []))))
+      let made = both_vars draft.bones (bone_of first draft.bone_args draft.target draft.listed ∷ []) p in
+      rw (e, made, one_vars first draft.bone_args draft.target draft.listed) (simp (append_assoc, append-nil))
 
-  pub branches_begin : trace terms inputs unclosed bones args opened target list ≡ trace terms inputs (record { before = bones; counts = []; inside = [] } ∷ unclosed) [] args opened target list
+  -- a branch bone begins, a branch ends, a branch bone ends
+  pub branches_begin : came draft ≡ came (record draft { unclosed = record { before = draft.bones; counts = []; inside = [] } ∷ draft.unclosed; bones = [] })
   branches_begin = simp (append_assoc, append-nil)
 
-  -- a branch ends
-  pub branch_ends : (one : OpenBone) (outer : List OpenBone) → unclosed ≡ one ∷ outer → sum one.counts ≡ length one.inside →
-      trace terms inputs unclosed bones args opened target list
-      ≡ trace terms inputs (record { before = one.before; counts = one.counts ++ length bones ∷ []; inside = one.inside ++ bones } ∷ outer) [] args opened target list
-  branch_ends one outer e f =
-      ap (λ u. trace terms inputs u bones args opened target list) e
-      ∙ (simp append_assoc)
-      ∙ ap (λ vs. terms ++ (inputs ++ ((unclosed_vars outer ++ (vars_of one.before ++ vs)) ++ (args ++ (target_part opened target ++ list))))) (sym (inner_more one.counts one.inside bones f))
+  pub branch_ends : (one : OpenBone) (outer : List OpenBone) → draft.unclosed ≡ one ∷ outer → sum one.counts ≡ length one.inside →
+      came draft ≡ came (record draft { unclosed = record { before = one.before; counts = one.counts ++ length draft.bones ∷ []; inside = one.inside ++ draft.bones } ∷ outer; bones = [] })
+  branch_ends one outer e f = rw (e, inner_more one.counts one.inside draft.bones f) (simp append_assoc)
 
-  -- a branch bone ends
-  pub branches_end : {hooks vars n : ℕ} (one : OpenBone) (outer : List OpenBone) → unclosed ≡ one ∷ outer → BonesFit hooks vars n one.before → sum one.counts ≡ length one.inside →
-      bones ≡ [] → args ≡ [] → opened ≡ None →
-      trace terms inputs unclosed bones args opened target list ≡ trace terms inputs outer (one.before ++ Either one.counts list ∷ one.inside) args opened target []
+  pub branches_end : {hooks vars n : ℕ} (one : OpenBone) (outer : List OpenBone) → draft.unclosed ≡ one ∷ outer → BonesFit hooks vars n one.before → sum one.counts ≡ length one.inside →
+      draft.bones ≡ [] → draft.bone_args ≡ [] → draft.opened ≡ None →
+      came draft ≡ came (record draft { bones = one.before ++ Either one.counts draft.listed ∷ one.inside; unclosed = outer; listed = [] })
   branches_end one outer e p f b a o =
-      let made = both_vars one.before (Either one.counts list ∷ one.inside) p ∙ ap (λ vs. vars_of one.before ++ vs) (branch_vars one.counts list one.inside f) in
-      ap (λ u. trace terms inputs u bones args opened target list) e
-      ∙ ap (λ bs. trace terms inputs (one ∷ outer) bs args opened target list) b
-      ∙ ap (λ vs. trace terms inputs (one ∷ outer) [] vs opened target list) a
-      ∙ ap (λ first. trace terms inputs (one ∷ outer) [] [] first target list) o
-      ∙ (simp (append_assoc, append-nil))
-      ∙ ap (λ vs. terms ++ (inputs ++ (unclosed_vars outer ++ (vs ++ [])))) (sym made)
-      ∙ ap (λ first. trace terms inputs outer (one.before ++ Either one.counts list ∷ one.inside) [] first target []) (sym o)
-      ∙ ap (λ vs. trace terms inputs outer (one.before ++ Either one.counts list ∷ one.inside) vs opened target []) (sym a)
+      rw (e, b, a, o, both_vars one.before (Either one.counts draft.listed ∷ one.inside) p, branch_vars one.counts draft.listed one.inside f) (simp (append_assoc, append-nil))
 
   -- a rule ends
-  pub rule_ends : unclosed ≡ [] → args ≡ [] → opened ≡ None → trace terms inputs unclosed bones args opened target list ≡ terms ++ (inputs ++ (vars_of bones ++ list))
-  rule_ends u a o =
-      ap (λ us. trace terms inputs us bones args opened target list) u
-      ∙ ap (λ vs. trace terms inputs [] bones vs opened target list) a
-      ∙ ap (λ first. trace terms inputs [] bones [] first target list) o
+  pub rule_ends : draft.unclosed ≡ [] → draft.bone_args ≡ [] → draft.opened ≡ None → came draft ≡ draft.terms ++ (draft.rule_inputs ++ (vars_of draft.bones ++ draft.listed))
+  rule_ends u a o = rw (u, a, o) refl

@@ -16,6 +16,7 @@ use Rattle.sk_def.specs.declared.ids.ConId.{ConId}
 use Rattle.sk_def.specs.declared.ids.Var.{Var}
 use Rattle.sk_def.specs.declared.sorts.ArgSort.{ArgSort}
 use Rattle.sk_def.specs.declared.bone.Bone.TheVariants.{Either}
+use Rattle.sk_def.specs.declared.bone.Target.{Target}
 use Rattle.sk_def.specs.declared.bone.Target.TheVariants.{Own}
 use Rattle.sk_def.specs.declared.def.Rule.{Rule}
 use Rattle.sk_deftext.specs.Words.{keyword_of, keyword_in, plain_word, flow_sort_of, is_reserved}
@@ -44,8 +45,9 @@ use Rattle.sk_deftext.specs.declared.word.Keyword.{Keyword}
 use Rattle.sk_deftext.specs.declared.word.Keyword.TheVariants as keyword
 use Rattle.sk_deftext.proofs.Standing.{Standing, Bodies}
 use Rattle.sk_deftext.proofs.Phases as phase
-use Rattle.sk_deftext.proofs.Phases.{Phase, idle, termed, among, between, begun, argued, aimed, Lists, Takes, Path, here, onto, HasRoom, OuterHaveRoom, In, UnclosedFew, Ordered}
+use Rattle.sk_deftext.proofs.Phases.{Phase, idle, termed, among, between, begun, argued, aimed, Lists, Takes, Path, here, onto, HasRoom, OuterHaveRoom, In, UnclosedFew, OrderedOf, Ordered, trace, came}
 use Rattle.sk_deftext.proofs.Appearing.{appear_push, NameComes, name_comes}
+use Rattle.sk_deftext.proofs.Found.{Comes}
 use Rattle.sk_deftext.proofs.Appearing as appearing
 
 abbrev GoesBy : Met → Phase → Type 0
@@ -193,6 +195,17 @@ module _ (draft : Draft) (s : Standing draft) (o : Ordered draft) where
     by None = bad Unknown
     by (Some con) = goes _ [] q i here o
 
+  -- what came, as other lists, and with a variable more; the order where lists change beside the bones
+  moved : {vs : List Var} → came draft ≡ vs → Came (length draft.vars) vs
+  moved e = subst (Came (length draft.vars)) e o.appear
+
+  pushed : (vars : ℕ) (v : Var) {vs : List Var} → came draft ++ v ∷ [] ≡ vs → Comes (length draft.vars) v vars → Came vars vs
+  pushed vars v e c = subst (Came vars) e (appear_push 0 (length draft.vars) vars (came draft) v o.appear c)
+
+  same_bones : {vars : ℕ} {terms inputs args list : List Var} {opened : Option BoneHead} {aim : Target} → Came vars (trace terms inputs draft.unclosed draft.bones args opened aim list) →
+      OrderedOf draft.def.rules vars terms inputs draft.unclosed draft.bones args opened aim list
+  same_bones appear = record { in_order = o.in_order; appear = appear; few = o.few; unclosed_few = o.unclosed_few }
+
   -- variables
   variable_goes : (p q : Phase) (list : Listed) → Lists list p q → ((entries : List Var) → In p (record draft { listed = entries })) → (word : Option (List ℕ)) → Goes (variable draft list word) q
   unfolding variable
@@ -202,14 +215,7 @@ module _ (draft : Draft) (s : Standing draft) (o : Ordered draft) where
         by : (o : Option (ℕ × List (List ℕ))) → NameComes (length draft.vars) o → Goes (spec.with_variable draft list o) q
         by None c = bad (TooMany which.Variables)
         by (Some (place, vars)) c =
-            goes _ _ p (free (draft.listed ++ record { 0 = place } ∷ [])) (onto (phase.at_more l) here) (record {
-              in_order = o.in_order;
-              appear = subst (Came (length vars))
-                  (sym (appearing.with_entry draft.terms draft.rule_inputs draft.unclosed draft.bones draft.bone_args draft.opened draft.target draft.listed (record { 0 = place })))
-                  (appear_push 0 (length draft.vars) (length vars) _ (record { 0 = place }) o.appear c);
-              few = o.few;
-              unclosed_few = o.unclosed_few;
-            })
+            goes _ _ p (free (draft.listed ++ record { 0 = place } ∷ [])) (onto (phase.at_more l) here) (same_bones (pushed (length vars) (record { 0 = place }) (appearing.with_entry draft (record { 0 = place })) c))
 
   target_goes : {n : ℕ} → In (argued true n) draft → (word : Option (List ℕ)) → Goes (target draft word) (aimed n)
   unfolding target
@@ -218,14 +224,7 @@ module _ (draft : Draft) (s : Standing draft) (o : Ordered draft) where
     named : (name : Option (ℕ × List (List ℕ))) → NameComes (length draft.vars) name → Goes (spec.with_target draft name) (aimed n)
     named None c = bad (TooMany which.Variables)
     named (Some (place, vars)) c =
-        goes _ [] (aimed n) i.0 here (record {
-          in_order = o.in_order;
-          appear = subst (Came (length vars))
-              (sym (appearing.with_aim draft.terms draft.rule_inputs draft.unclosed draft.bones draft.bone_args draft.opened draft.target draft.listed (record { 0 = place }) i.1 i.2 i.3))
-              (appear_push 0 (length draft.vars) (length vars) _ (record { 0 = place }) o.appear c);
-          few = o.few;
-          unclosed_few = o.unclosed_few;
-        })
+        goes _ [] (aimed n) i.0 here (same_bones (pushed (length vars) (record { 0 = place }) (appearing.with_aim draft (record { 0 = place }) i.1 i.2 i.3) c))
 
     by : (key : Option Keyword) → Goes (spec.target_word draft word key) (aimed n)
     by None = named (with_name draft.vars word) (name_comes draft.vars word)
@@ -247,12 +246,7 @@ module _ (draft : Draft) (s : Standing draft) (o : Ordered draft) where
   branches_path body t = onto phase.at_branch_open (onto phase.at_branch_bones (onto phase.at_or_first (onto phase.at_branch_open (onto phase.at_branch_bones (onto phase.at_or_more (onto t here))))))
 
   with_head : (word : BoneHead) → draft.opened ≡ None → Ordered (record draft { opened = Some word; target = Own })
-  with_head word e = record {
-    in_order = o.in_order;
-    appear = subst (Came (length draft.vars)) (appearing.with_head draft.terms draft.rule_inputs draft.unclosed draft.bones draft.bone_args draft.opened draft.target draft.listed (Some word) e) o.appear;
-    few = o.few;
-    unclosed_few = o.unclosed_few;
-  }
+  with_head word e = same_bones (moved (appearing.with_head draft (Some word) e))
 
   begun_goes : {n : ℕ} {q : Phase} (body : Body) → Takes (expected.Bones body) (among n) q → In (among n) draft → (at : ℕ) (form : Opening) → Goes (spec.begun draft body at form) q
   begun_goes body t i at opening.Keyword = bad Unexpected
@@ -263,7 +257,7 @@ module _ (draft : Draft) (s : Standing draft) (o : Ordered draft) where
       either_way (nat_lt (length draft.unclosed) 8)
       (λ _. goes _ _ (between (suc n)) (record { depth = ap (λ k. suc k) i.0.depth; room = (omega arith, i.0.room) }, refl, i.1, i.2) (branches_path body t) (record {
         in_order = o.in_order;
-        appear = subst (Came (length draft.vars)) (appearing.branches_begin draft.terms draft.rule_inputs draft.unclosed draft.bones draft.bone_args draft.opened draft.target draft.listed) o.appear;
+        appear = moved (appearing.branches_begin draft);
         few = All-nil HasFewBranches;
         unclosed_few = (o.few, All-nil HasFewBranches, o.unclosed_few);
       }))
@@ -295,8 +289,7 @@ module _ (draft : Draft) (s : Standing draft) (o : Ordered draft) where
       goes _ [] (between n)
       (record { depth = ap length (sym e) ∙ i.0.depth; room = (omega (arith, here_room, length-append one.counts (length draft.bones ∷ [])), All-tail HasRoom one outer room) }, refl, i.1, i.2) here (record {
         in_order = o.in_order;
-        appear = subst (Came (length draft.vars))
-            (appearing.branch_ends draft.terms draft.rule_inputs draft.unclosed draft.bones draft.bone_args draft.opened draft.target draft.listed one outer e bodies.unclosed_fit.0.counts_are) o.appear;
+        appear = moved (appearing.branch_ends draft one outer e bodies.unclosed_fit.0.counts_are);
         few = All-nil HasFewBranches;
         unclosed_few = (few.0, All-append HasFewBranches one.inside draft.bones few.1 o.few, few.2);
       })
@@ -332,8 +325,7 @@ module _ (draft : Draft) (s : Standing draft) (o : Ordered draft) where
   bone_ends {n} i (Some word) e =
       goes _ [] (among n) (i, refl, refl) here (record {
         in_order = o.in_order;
-        appear = subst (Came (length draft.vars))
-            (appearing.bone_ends draft.terms draft.rule_inputs draft.unclosed draft.bones draft.bone_args draft.opened draft.target draft.listed word s.bodies.bones_fit e) o.appear;
+        appear = moved (appearing.bone_ends draft word s.bodies.bones_fit e);
         few = All-push HasFewBranches draft.bones (bone_of word draft.bone_args draft.target draft.listed) o.few (few_one word);
         unclosed_few = o.unclosed_few;
       })
@@ -348,9 +340,7 @@ module _ (draft : Draft) (s : Standing draft) (o : Ordered draft) where
       either_way (nat_lt (length one.counts) 2) (λ _. bad Unexpected)
       (λ _. goes _ [] (among n) (record { depth = depth; room = room.1 }, i.2, i.3) here (record {
         in_order = o.in_order;
-        appear = subst (Came (length draft.vars))
-            (appearing.branches_end draft.terms draft.rule_inputs draft.unclosed draft.bones draft.bone_args draft.opened draft.target draft.listed one outer e bodies.unclosed_fit.0.before_fits
-            bodies.unclosed_fit.0.counts_are i.1 i.2 i.3) o.appear;
+        appear = moved (appearing.branches_end draft one outer e bodies.unclosed_fit.0.before_fits bodies.unclosed_fit.0.counts_are i.1 i.2 i.3);
         few = All-append HasFewBranches one.before (Either one.counts draft.listed ∷ one.inside) few.0 (All-cons HasFewBranches (Either one.counts draft.listed) one.inside room.0 few.1);
         unclosed_few = few.2;
       }))
@@ -367,8 +357,7 @@ module _ (draft : Draft) (s : Standing draft) (o : Ordered draft) where
       goes _ [] idle (refl, refl, refl, refl, refl, refl) here (record {
         in_order = All-push IsInOrder draft.def.rules rule o.in_order (record {
           few_branches = o.few;
-          appear = subst (Came (length draft.vars))
-              (appearing.rule_ends draft.terms draft.rule_inputs draft.unclosed draft.bones draft.bone_args draft.opened draft.target draft.listed (none_unclosed draft.unclosed i.0.depth) i.1 i.2) o.appear;
+          appear = moved (appearing.rule_ends draft (none_unclosed draft.unclosed i.0.depth) i.1 i.2);
         });
         appear = refl;
         few = All-nil HasFewBranches;
@@ -381,29 +370,11 @@ module _ (draft : Draft) (s : Standing draft) (o : Ordered draft) where
   closed_goes {p} listed.Inputs phase.for_inputs i = goes draft [] p i here o
   closed_goes {p} listed.Outputs phase.for_outputs i = hook_ends p i draft.hook_name draft.sort
   closed_goes listed.Terms phase.for_terms i =
-      goes _ [] termed (i.1, i.2, i.3, i.4, i.5) here (record {
-        in_order = o.in_order;
-        appear = subst (Came (length draft.vars))
-            (appearing.as_terms draft.terms draft.rule_inputs draft.unclosed draft.bones draft.bone_args draft.opened draft.target draft.listed i.0 i.1 i.2 i.3 i.4 i.5) o.appear;
-        few = o.few;
-        unclosed_few = o.unclosed_few;
-      })
+      goes _ [] termed (i.1, i.2, i.3, i.4, i.5) here (same_bones (moved (appearing.as_terms draft i.0 i.1 i.2 i.3 i.4 i.5)))
   closed_goes listed.RuleInputs phase.for_rule_inputs i =
-      goes _ [] (among 0) (record { depth = ap length i.1; room = subst (All HasRoom) (sym i.1) (All-nil HasRoom) }, i.3, i.4) here (record {
-        in_order = o.in_order;
-        appear = subst (Came (length draft.vars))
-            (appearing.as_inputs draft.terms draft.rule_inputs draft.unclosed draft.bones draft.bone_args draft.opened draft.target draft.listed i.0 i.1 i.2 i.3 i.4) o.appear;
-        few = o.few;
-        unclosed_few = o.unclosed_few;
-      })
+      goes _ [] (among 0) (record { depth = ap length i.1; room = subst (All HasRoom) (sym i.1) (All-nil HasRoom) }, i.3, i.4) here (same_bones (moved (appearing.as_inputs draft i.0 i.1 i.2 i.3 i.4)))
   closed_goes listed.BoneArgs (phase.for_args {b = b} {n = n}) i =
-      goes _ [] (argued b n) (i.0, i.2, refl, i.3) here (record {
-        in_order = o.in_order;
-        appear = subst (Came (length draft.vars))
-            (appearing.as_args draft.terms draft.rule_inputs draft.unclosed draft.bones draft.bone_args draft.opened draft.target draft.listed i.1 i.2) o.appear;
-        few = o.few;
-        unclosed_few = o.unclosed_few;
-      })
+      goes _ [] (argued b n) (i.0, i.2, refl, i.3) here (same_bones (moved (appearing.as_args draft i.1 i.2)))
   closed_goes listed.BoneOuts phase.for_outs i = bone_ends i draft.opened refl
   closed_goes listed.Exports phase.for_exports i = branches_end i draft.unclosed refl
   closed_goes listed.RuleOutputs phase.for_rule_outputs i = rule_ends i draft.hook draft.con

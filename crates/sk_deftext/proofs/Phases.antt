@@ -122,6 +122,9 @@ abbrev pub trace : List Var → List Var → List OpenBone → List Bone → Lis
 trace terms inputs unclosed bones args opened target list =
     terms ++ (inputs ++ (unclosed_vars unclosed ++ (vars_of bones ++ (args ++ (target_part opened target ++ list)))))
 
+abbrev pub came : Draft → List Var
+came draft = trace draft.terms draft.rule_inputs draft.unclosed draft.bones draft.bone_args draft.opened draft.target draft.listed
+
 abbrev pub UnclosedFew : List OpenBone → Type 0
 UnclosedFew [] = Unit {0}
 UnclosedFew (one ∷ outer) = All HasFewBranches one.before × All HasFewBranches one.inside × UnclosedFew outer
