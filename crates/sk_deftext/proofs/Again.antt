@@ -1,5 +1,5 @@
 -- A definition that some text says has a text.
-use Rattle.std.proofs.Common.{◌≡◌, ℕ, List, refl, ap, subst, Result, Ok, Err}
+use Rattle.std.proofs.Common.{◌≡◌, ℕ, List, refl, sym, ap, subst, Result, Ok, Err}
 use Rattle.sk_base.specs.Answer.{◌>>=◌}
 use Rattle.sk_lex.specs.Symbols.{symbols}
 use Rattle.sk_lex.specs.Tokens.{tokens_of}
@@ -20,12 +20,15 @@ use Rattle.sk_deftext.proofs.InOrder.{symbols_in_order}
 use Rattle.sk_deftext.proofs.Items.{canonical_says}
 use Rattle.sk_deftext.proofs.Naming.{text_has_names}
 
-pub draft_has_text : (text : List ℕ) (ts : List Token) (draft : Draft) → tokens_of text ≡ Ok ts → read_symbols (symbols text ts) ≡ Ok draft → HasText draft.def
+draft_has_text : (text : List ℕ) (ts : List Token) (draft : Draft) → tokens_of text ≡ Ok ts → read_symbols (symbols text ts) ≡ Ok draft → HasText draft.def
 draft_has_text text ts draft t e = record {
   fits = (read_stands (symbols text ts) draft e).definition;
   named = text_has_names text ts draft t e;
   in_order = symbols_in_order (symbols text ts) draft e;
 }
+
+pub read_has_text : (text : List ℕ) (ts : List Token) (draft : Draft) (d : Def) → d ≡ draft.def → tokens_of text ≡ Ok ts → read_symbols (symbols text ts) ≡ Ok draft → HasText d
+read_has_text text ts draft d s t e = subst HasText (sym s) (draft_has_text text ts draft t e)
 
 abbrev def_in : Def → Result Source DefFault → Def
 def_in other (Ok source) = source.def
@@ -36,7 +39,7 @@ said d places = Ok (record { def = d; places = places })
 
 drafted : (text : List ℕ) (d : Def) (places : Places) (ts : List Token) → tokens_of text ≡ Ok ts → (r : Result Draft (DefError × ℕ)) → read_symbols (symbols text ts) ≡ r →
     located text ts r ≡ said d places → HasText d
-drafted text d places ts t (Ok draft) m e = let same : draft.def ≡ d = ap (def_in d) e in subst HasText same (draft_has_text text ts draft t m)
+drafted text d places ts t (Ok draft) m e = let same : draft.def ≡ d = ap (def_in d) e in read_has_text text ts draft d (sym same) t m
 drafted text d places ts t (Err (error, number)) m e = absurd (cc e)
 
 lexed_so : (text : List ℕ) (d : Def) (places : Places) (r : Result (List Token) (LexError × ℕ)) → tokens_of text ≡ r →
@@ -44,10 +47,10 @@ lexed_so : (text : List ℕ) (d : Def) (places : Places) (r : Result (List Token
 lexed_so text d places (Ok ts) t e = drafted text d places ts t (read_symbols (symbols text ts)) refl e
 lexed_so text d places (Err (error, at)) t e = absurd (cc e)
 
-read_has_text : (text : List ℕ) (d : Def) (places : Places) → read_definition text ≡ said d places → HasText d
+said_has_text : (text : List ℕ) (d : Def) (places : Places) → read_definition text ≡ said d places → HasText d
 unfolding read_definition
-read_has_text text d places e = lexed_so text d places (tokens_of text) refl e
+said_has_text text d places e = lexed_so text d places (tokens_of text) refl e
 
 -- what some text says, the canonical text says
 pub said_again : (text : List ℕ) (d : Def) → Says text d → Says (definition_text d) d
-said_again text d s = canonical_says d (read_has_text text d s.places s.is)
+said_again text d s = canonical_says d (said_has_text text d s.places s.is)

@@ -8,7 +8,7 @@ use Rattle.sk_lex.specs.Run.{Turn}
 use Rattle.sk_lex.specs.Symbols.{Symbol}
 use Rattle.sk_lex.specs.declared.token.Token.{Token}
 use Rattle.sk_lex.proofs.Runs.{whole_keeps}
-use Rattle.sk_def.specs.Fits.{ArgumentFits, ConstructorFits, HookFits, RuleFits, DefinitionFits}
+use Rattle.sk_def.specs.Fits.{ArgumentFits, ConstructorFits, HookFits, RuleFits}
 use Rattle.sk_def.specs.Layout.{no_bone}
 use Rattle.sk_def.specs.declared.def.Rule.{Rule}
 use Rattle.sk_def.specs.declared.ids.Var.{Var}
@@ -76,9 +76,6 @@ parts_placed f (m ∷ marks) (first ∷ rules) p zero part r e few =
     let same : first ≡ r = cc e in
     some_at f m part (omega (arith, p.0, few, ap (λ (x : Rule). length x.bones) same))
 parts_placed f (m ∷ marks) (first ∷ rules) p (suc rule) part r e few = parts_placed f marks rules p.1 rule part r e few
-
-pub source_fits : (text : List ℕ) (tokens : List Token) (draft : Draft) (source : Source) → source ≡ source_of text tokens draft → Standing draft → DefinitionFits source.def
-source_fits text tokens draft source e s = subst (λ (x : Source). DefinitionFits x.def) (sym e) s.definition
 
 pub source_placed : (text : List ℕ) (tokens : List Token) (draft : Draft) (source : Source) → source ≡ source_of text tokens draft → Standing draft → PlacesFit source
 source_placed text tokens draft source e s = subst PlacesFit (sym e) (record {
