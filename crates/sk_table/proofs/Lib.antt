@@ -1,7 +1,13 @@
 pub mod Hooks
+pub mod Listing
 pub mod Runs
+pub mod Said
+pub mod Spelled
 pub mod TupleNames
 pub mod TupleShapes
 pub mod TupleTurns
 pub mod TupleParts
+pub mod TupleReturned
+pub mod TableReturned
 pub mod TableTurns
+pub mod Turns

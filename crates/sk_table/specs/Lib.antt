@@ -4,3 +4,4 @@ pub mod TableMeets
 pub mod Tables
 pub mod Texts
 pub mod Tuples
+pub mod Written

@@ -1,7 +1,10 @@
 //! Printing a table.
 
-ghost use Rattle.std.specs.Prelude.{◌≡◌, ◌++◌, IfOk, OnOk};
+ghost use Rattle.std.specs.Prelude.{◌≡◌, ◌++◌, IfOk, OnOk, Ok};
+ghost use Rattle.sk_term.specs.Program.{Program};
+ghost use Rattle.sk_table.specs.Tables.{read_table};
 ghost use Rattle.sk_table.specs.Texts.{first_line, hook_name, outs_text, table_text, triple_text, triples_text};
+ghost use Rattle.sk_table.specs.Written.{HasText};
 
 use crate::triple::{Table, Triple};
 use sk_base::{Names, NoMemory};
@@ -71,7 +74,11 @@ pub fn print_table<D: NumDom>(
     names: &Names,
     table: &Table<D>,
 ) -> Result<Vec<u8>, NoMemory>
-    ensures { IfOk result (λ text. text.items ≡ table_text D.domain D.texts def.now names.now table.now) }
+    ensures text { IfOk result (λ text. text.items ≡ table_text D.domain D.texts def.now names.now table.now) }
+
+    // Where a text can say the table over a program, reading this one gives the table again.
+    ensures returns { (program : Program) → HasText D.domain D.texts def.now program names.now table.now →
+        IfOk result (λ text. read_table D.domain D.texts def.now program names.now text.items ≡ Ok table.now) }
 {
     let mut out = Vec::new(alloc);
     put_first_line::<D>(&mut out)?;
