@@ -1,8 +1,9 @@
--- What is read are triples that fit.
-use Rattle.std.proofs.Common.{◌≡◌, ℕ, ◌+◌, ◌-◌, ◌<◌, ◌≤◌, Bool, true, false, cond, List, [], ◌∷◌, length, map, refl, sym, ap, subst, ◌∙◌, arith, Option, Some, None, Result, Ok, Err, inl, inr, ℤ, pos, negsuc}
-use Rattle.std.specs.Prelude.{IfOk, IfSome, All, nat_lt, slice_get, option_map, get_or, ◌==◌, ◌⊎◌}
+-- What is read is a table: few triples that fit, no part of which is empty.
+use Rattle.std.proofs.Common.{◌≡◌, ℕ, ◌+◌, ◌-◌, ◌<◌, ◌≤◌, Bool, true, false, cond, List, [], ◌∷◌, length, map, refl, sym, ap, subst, ◌∙◌, arith, length-append, Option, Some, None, Result, Ok, Err, inl, inr, ℤ, pos, negsuc}
+use Rattle.std.specs.Prelude.{IfOk, IfSome, nat_lt, slice_get, option_map, get_or, ◌==◌, ◌⊎◌}
 use Rattle.std.specs.List.{list_all, list_any}
 use Rattle.std.specs.Str.{bytes_eq}
+use Rattle.std.proofs.lemmas.Bool.{ltb-true}
 use Rattle.std.proofs.lemmas.List.Elements.{All-push, All-nil}
 use Rattle.std.proofs.lemmas.List.Quantifiers.{position-Some}
 use Rattle.std.proofs.lemmas.Option.{slice_get_cases}
@@ -17,7 +18,7 @@ use Rattle.sk_lex.specs.Symbols.{Symbol, word_of, number_of, is_arrow}
 use Rattle.sk_term.specs.Program.{Program}
 use Rattle.sk_lattice.specs.Domain.{Domain}
 use Rattle.sk_lattice.specs.DomainTexts.{DomainTexts, is_domain_word}
-use Rattle.sk_lattice.specs.Empty.{flow_is_empty}
+use Rattle.sk_lattice.specs.Empty.{flow_is_empty, is_proper}
 use Rattle.sk_lattice.specs.Padding.{padded_flow}
 use Rattle.sk_lattice.specs.Shapes.{has_sorts}
 use Rattle.sk_lattice.specs.declared.flow.AbsFlow.{AbsFlow}
@@ -26,12 +27,14 @@ use Rattle.sk_table.specs.declared.expected.TableExpected.TheVariants.{TableWord
 use Rattle.sk_table.specs.declared.fault.TableError.{TableError}
 use Rattle.sk_table.specs.declared.fault.TableError.TheVariants as error
 use Rattle.sk_table.specs.Fits.{TripleFits}
+use Rattle.sk_table.specs.Written.{IsProper, IsTable}
+use Rattle.sk_table.specs.declared.triple.Triple.{Triple}
 use Rattle.sk_table.specs.TableMeets.{Stays}
 use Rattle.sk_table.specs.Tables.{TableReading, Met, alone, is_table_word, is_one, domain_word, hook_found, hook_word, hook_of, has_sort_at, point_found, pointed, point, tuple_at, with_tuple, with_ins, ins, with_triple, outs, step, may_end, table_rules, no_triple, read_symbols}
 use Rattle.sk_table.specs.Tuples as tuples
 use Rattle.sk_table.specs.Tuples.{Reading, is_none_word, whole, read_tuple}
 use Rattle.sk_table.proofs.Runs.{Leads, run_keeps, Past}
-use Rattle.sk_table.proofs.TupleShapes.{HaveShapes, padded_have_sorts}
+use Rattle.sk_table.proofs.TupleShapes.{HaveShapes, padded_have_sorts, full_are_proper}
 use Rattle.sk_table.proofs.TupleTurns.{IsTaken, HasAll, whole_run, reads_flows, reads_past}
 
 where_true : {A E : Type 0} (b : Bool) (r : Result A E) (e : E) (P : A → Type 0) → (b ≡ true → IfOk r P) → IfOk (cond b r (Err e)) P
@@ -67,9 +70,9 @@ named_is_hook d word hook h = by_place (place_of_hook d.hooks word) refl h where
       is_hook d hook (omega (arith, here, same))
 
 module _ {D : Type 0} (d : Domain D) (t : DomainTexts D) (taken : IsTaken t) where
-  -- a tuple that is found has the sorts, and takes no more symbols than there are
+  -- a tuple that is found has the sorts and no empty part, and takes no more symbols than there are
   abbrev IsFound : List FlowSort → ℕ → ℕ → List (AbsFlow D) × ℕ → Type 0
-  IsFound sorts names left found = (found.1 ≤ left) × (has_sorts names sorts found.0 ≡ true)
+  IsFound sorts names left found = (found.1 ≤ left) × (has_sorts names sorts found.0 ≡ true) × (is_proper d found.0 ≡ true)
 
   abbrev kept : ℕ → ℕ → Reading D → Result (List (AbsFlow D)) (TableError × ℕ) → Result (tuples.ReadTuple D × ℕ) (TableError × ℕ)
   kept at end state r = r >>= (λ tuple. Ok (record { tuple = tuple; names = state.names }, end))
@@ -84,26 +87,27 @@ module _ {D : Type 0} (d : Domain D) (t : DomainTexts D) (taken : IsTaken t) whe
       IfOk r (λ read. HasAll d t taken true names sorts read.0 × (read.1 ≤ at + length (symbol ∷ left))) → Past (at + 1) r →
       IfOk (counted at (r >>= (λ read. kept at read.1 read.0 (whole d (length read.0.names) at read.0.flows)))) (IsFound sorts (length names) (length left))
   found_by sorts names at symbol left (Err e) h p = tt
-  found_by sorts names at symbol left (Ok (state, end)) h p = by_empty (list_any (flow_is_empty d) state.flows) where
-    by_empty : (b : Bool) → IfOk (counted at (kept at end state (emptied at state b))) (IsFound sorts (length names) (length left))
-    by_empty true = tt
-    by_empty false =
+  found_by sorts names at symbol left (Ok (state, end)) h p = by_empty (list_any (flow_is_empty d) state.flows) refl where
+    by_empty : (b : Bool) → list_any (flow_is_empty d) state.flows ≡ b → IfOk (counted at (kept at end state (emptied at state b))) (IsFound sorts (length names) (length left))
+    by_empty true e = tt
+    by_empty false e =
         let Q : List FlowSort → Type 0 = λ all. HaveShapes d (length state.names) all state.flows in
         let S : List (List ℕ) → Type 0 = λ all. has_sorts (length all) sorts (map (padded_flow d (length state.names)) state.flows) ≡ true in
-        (omega (arith, h.1, p), subst S (h.0.fixed.names refl) (padded_have_sorts (subst Q h.0.fixed.sorts h.0.shapes)))
+        (omega (arith, h.1, p), subst S (h.0.fixed.names refl) (padded_have_sorts (subst Q h.0.fixed.sorts h.0.shapes)), full_are_proper h.0.shapes e)
 
   known_tuple : (sorts : List FlowSort) (names : List (List ℕ)) (at : ℕ) (symbol : Symbol) (left : List Symbol) → IfOk (tuple_at d t sorts names at (symbol ∷ left)) (IsFound sorts (length names) (length left))
   unfolding tuple_at read_tuple tuples.read_symbols
   known_tuple sorts names at symbol left = found_by sorts names at symbol left (whole_run d t taken true names sorts at (symbol ∷ left)) (reads_flows d t taken true names sorts at (symbol ∷ left)) (reads_past d t taken true names sorts at (symbol ∷ left))
 
-  -- all triples fit
+  -- what was read is a table
   abbrev Fit : TableReading D → Type 0
-  Fit s = All (TripleFits s.def s.program (length s.names)) s.triples
+  Fit s = IsTable d s.def s.program (length s.names) s.triples
 
   -- the hook of the triple that is being read, with its point, and with its inputs
   pub record AtHook (s : TableReading D) : Type 0 where
     pub fit : Fit s
     pub hook : IsHook s.def s.hook
+    pub few : length s.triples < 32768
 
   pub record AtPoint (s : TableReading D) : Type 0 where
     pub at_hook : AtHook s
@@ -112,6 +116,7 @@ module _ {D : Type 0} (d : Domain D) (t : DomainTexts D) (taken : IsTaken t) whe
   pub record AtIns (s : TableReading D) : Type 0 where
     pub at_point : AtPoint s
     pub ins : has_sorts (length s.names) at_point.at_hook.hook.found.inputs s.ins ≡ true
+    pub proper : is_proper d s.ins ≡ true
 
   -- what was read, by what is expected
   abbrev pub Reached : List TableExpected → TableReading D → Type 0
@@ -140,14 +145,14 @@ module _ {D : Type 0} (d : Domain D) (t : DomainTexts D) (taken : IsTaken t) whe
   domain_leads s at left (Some word) h =
       where_either (bytes_eq word t.word) _ _ (Leads Reached (HookWord ∷ []) left) (omega arith, (refl, h)) (where_either (is_domain_word word) _ _ (Leads Reached (HookWord ∷ []) left) tt tt)
 
-  hook_leads : (s : TableReading D) (at : ℕ) (left : List Symbol) (word : List ℕ) (found : Option HookId) → hook_named s.def word ≡ found → Fit s → Lead [] left (hook_found s at found)
-  hook_leads s at left word None e h = tt
-  hook_leads s at left word (Some hook) e h = (omega arith, (refl, record { fit = h; hook = named_is_hook s.def word hook e }))
+  hook_leads : (s : TableReading D) (at : ℕ) (left : List Symbol) (word : List ℕ) (found : Option HookId) → hook_named s.def word ≡ found → length s.triples < 32768 → Fit s → Lead [] left (hook_found s at found)
+  hook_leads s at left word None e few h = tt
+  hook_leads s at left word (Some hook) e few h = (omega arith, (refl, record { fit = h; hook = named_is_hook s.def word hook e; few = few }))
 
   hook_word_leads : (s : TableReading D) (at : ℕ) (left : List Symbol) (word : Option (List ℕ)) → Fit s → Lead [] left (hook_word s at word)
   unfolding hook_word
   hook_word_leads s at left None h = tt
-  hook_word_leads s at left (Some word) h = where_true (nat_lt (length s.triples) 32768) _ _ (Leads Reached [] left) (λ k. hook_leads s at left word (hook_named s.def word) refl h)
+  hook_word_leads s at left (Some word) h = where_true (nat_lt (length s.triples) 32768) _ _ (Leads Reached [] left) (λ k. hook_leads s at left word (hook_named s.def word) refl (ltb-true (length s.triples) 32768 k) h)
 
   -- the hook in place of where it is found
   with_hook : (s : TableReading D) (es : List TableExpected) (left : List Symbol) (f : Option Hook → Met D) → (h : IsHook s.def s.hook) → Lead es left (f (Some h.found)) → Lead es left (f (hook_of s))
@@ -160,35 +165,42 @@ module _ {D : Type 0} (d : Domain D) (t : DomainTexts D) (taken : IsTaken t) whe
   point_leads s at left h (Some (negsuc n)) = tt
   point_leads s at left h (Some (pos n)) = by_sort (has_sort_at s.program h.hook.found.sort n) refl where
     by_sort : (b : Bool) → has_sort_at s.program h.hook.found.sort n ≡ b → Lead (Ins ∷ Arrow ∷ Outs ∷ HookWord ∷ []) left (point_found s at (cond b (Some n) None))
-    by_sort true e = (omega arith, (refl, record { at_hook = record { fit = h.fit; hook = h.hook }; point = e }))
+    by_sort true e = (omega arith, (refl, record { at_hook = record { fit = h.fit; hook = h.hook; few = h.few }; point = e }))
     by_sort false e = tt
 
   tuple_leads : (es : List TableExpected) (left : List Symbol) (sorts : List FlowSort) (names : ℕ) (state : List (AbsFlow D) → TableReading D) (r : Result (List (AbsFlow D) × ℕ) (TableError × ℕ)) →
-      IfOk r (IsFound sorts names (length left)) → ((tuple : List (AbsFlow D)) → has_sorts names sorts tuple ≡ true → Reached es (state tuple)) → Lead es left (with_tuple state r)
-  tuple_leads es left sorts names state (Ok (tuple, more)) f h = (f.0, h tuple f.1)
+      IfOk r (IsFound sorts names (length left)) → ((tuple : List (AbsFlow D)) → has_sorts names sorts tuple ≡ true → is_proper d tuple ≡ true → Reached es (state tuple)) → Lead es left (with_tuple state r)
+  tuple_leads es left sorts names state (Ok (tuple, more)) f h = (f.0, h tuple f.1 f.2)
   tuple_leads es left sorts names state (Err e) f h = tt
 
   ins_leads : (s : TableReading D) (at : ℕ) (symbol : Symbol) (left : List Symbol) (h : AtPoint s) → Lead (Arrow ∷ Outs ∷ HookWord ∷ []) left (ins d t s (Some h.at_hook.hook.found) at (symbol ∷ left))
   unfolding ins
   ins_leads s at symbol left h =
       tuple_leads (Arrow ∷ Outs ∷ HookWord ∷ []) left h.at_hook.hook.found.inputs (length s.names) (with_ins s) _ (known_tuple h.at_hook.hook.found.inputs s.names at symbol left)
-      (λ tuple sorted. (refl, record { at_point = record { at_hook = record { fit = h.at_hook.fit; hook = h.at_hook.hook }; point = h.point }; ins = sorted }))
+      (λ tuple sorted full. (refl, record { at_point = record { at_hook = record { fit = h.at_hook.fit; hook = h.at_hook.hook; few = h.at_hook.few }; point = h.point }; ins = sorted; proper = full }))
 
-  triple_fits : (s : TableReading D) (h : AtIns s) (tuple : Option (List (AbsFlow D))) → IfSome tuple (λ found. has_sorts (length s.names) h.at_point.at_hook.hook.found.outputs found ≡ true) → Fit (with_triple s tuple)
-  triple_fits s h tuple k = All-push (TripleFits s.def s.program (length s.names)) s.triples _ h.at_point.at_hook.fit (record {
-    hook = h.at_point.at_hook.hook.found;
-    hook_is = h.at_point.at_hook.hook.is;
-    point_fits = h.at_point.point;
-    ins_fit = h.ins;
-    outs_fit = k;
-  })
+  triple_fits : (s : TableReading D) (h : AtIns s) (tuple : Option (List (AbsFlow D))) → IfSome tuple (λ found. has_sorts (length s.names) h.at_point.at_hook.hook.found.outputs found ≡ true) →
+      IfSome tuple (λ found. is_proper d found ≡ true) → Fit (with_triple s tuple)
+  triple_fits s h tuple k full =
+      let triple : Triple D = record { hook = s.hook; point = s.point; ins = s.ins; outs = tuple } in
+      record {
+        few = omega (arith, h.at_point.at_hook.few, length-append s.triples (triple ∷ []));
+        fit = All-push (TripleFits s.def s.program (length s.names)) s.triples triple h.at_point.at_hook.fit.fit (record {
+          hook = h.at_point.at_hook.hook.found;
+          hook_is = h.at_point.at_hook.hook.is;
+          point_fits = h.at_point.point;
+          ins_fit = h.ins;
+          outs_fit = k;
+        });
+        proper = All-push (IsProper d) s.triples triple h.at_point.at_hook.fit.proper (record { ins = h.proper; outs = full });
+      }
 
   outs_leads : (s : TableReading D) (at : ℕ) (symbol : Symbol) (left : List Symbol) (h : AtIns s) → Lead (HookWord ∷ []) left (outs d t s (Some h.at_point.at_hook.hook.found) at symbol left)
   unfolding outs
   outs_leads s at symbol left h =
-      where_either (is_none_word symbol) _ _ (Leads Reached (HookWord ∷ []) left) (omega arith, (refl, triple_fits s h None tt))
+      where_either (is_none_word symbol) _ _ (Leads Reached (HookWord ∷ []) left) (omega arith, (refl, triple_fits s h None tt tt))
       (tuple_leads (HookWord ∷ []) left h.at_point.at_hook.hook.found.outputs (length s.names) (λ tuple. with_triple s (Some tuple)) _ (known_tuple h.at_point.at_hook.hook.found.outputs s.names at symbol left)
-      (λ tuple sorted. (refl, triple_fits s h (Some tuple) sorted)))
+      (λ tuple sorted full. (refl, triple_fits s h (Some tuple) sorted full)))
 
   point_step : (s : TableReading D) (at : ℕ) (symbol : Symbol) (left : List Symbol) (h : AtHook s) → Lead (Ins ∷ Arrow ∷ Outs ∷ HookWord ∷ []) left (point s (Some h.hook.found) at symbol)
   unfolding point
@@ -223,24 +235,24 @@ module _ {D : Type 0} (d : Domain D) (t : DomainTexts D) (taken : IsTaken t) whe
   ended_fits count last (Ok (state, at)) h = where_true (at == count) _ _ Fit (λ k. h.0)
   ended_fits count last (Err e) h = tt
 
-  -- what is read are triples that fit
+  -- what is read is a table
   pub reads_triples : (def : Def) (program : Program) (names : List (List ℕ)) (symbols : List Symbol) → IfOk (read_symbols d t def program names symbols) Fit
   unfolding read_symbols
   reads_triples def program names symbols =
       ended_fits (length symbols) (0 + length symbols) _ (run_keeps (table_rules d t) Reached (record { ends = at_end; turns = leads }) 0 0 (TableWord ∷ One ∷ DomainWord ∷ HookWord ∷ []) (no_triple def program names) symbols (omega arith)
-      (refl, All-nil (TripleFits def program (length names))))
+      (refl, record { few = omega arith; fit = All-nil (TripleFits def program (length names)); proper = All-nil (IsProper d) }))
 
-  -- the triples that a reader holds at the end
+  -- and so are the triples that a reader holds at the end
   pub fits_by : (def : Def) (program : Program) (names : List (List ℕ)) (symbols : List Symbol) (begun state : TableReading D) → begun ≡ no_triple def program names →
-      run_whole (table_rules d t) (TableWord ∷ One ∷ DomainWord ∷ HookWord ∷ []) begun symbols ≡ Ok state → Stays begun state → All (TripleFits def program (length names)) state.triples
+      run_whole (table_rules d t) (TableWord ∷ One ∷ DomainWord ∷ HookWord ∷ []) begun symbols ≡ Ok state → Stays begun state → IsTable d def program (length names) state.triples
   unfolding read_symbols
   fits_by def program names symbols begun state b e k =
       let P : Result (TableReading D) (TableError × ℕ) → Type 0 = λ r. IfOk r Fit in
       let same : run_whole (table_rules d t) (TableWord ∷ One ∷ DomainWord ∷ HookWord ∷ []) (no_triple def program names) symbols ≡ Ok state = sym (ap (λ from. run_whole (table_rules d t) (TableWord ∷ One ∷ DomainWord ∷ HookWord ∷ []) from symbols) b) ∙ e in
       let fit : Fit state = subst P same (reads_triples def program names symbols) in
-      let A : Def → Type 0 = λ def. All (TripleFits def state.program (length state.names)) state.triples in
-      let B : Program → Type 0 = λ program. All (TripleFits def program (length state.names)) state.triples in
-      let C : List (List ℕ) → Type 0 = λ names. All (TripleFits def program (length names)) state.triples in
+      let A : Def → Type 0 = λ def. IsTable d def state.program (length state.names) state.triples in
+      let B : Program → Type 0 = λ program. IsTable d def program (length state.names) state.triples in
+      let C : List (List ℕ) → Type 0 = λ names. IsTable d def program (length names) state.triples in
       subst C (k.names ∙ ap (λ (from : TableReading D). from.names) b) (subst B (k.program ∙ ap (λ (from : TableReading D). from.program) b) (subst A (k.def ∙ ap (λ (from : TableReading D). from.def) b) fit))
 
 pub stays : {D : Type 0} (state : TableReading D) → Stays state state

@@ -1,12 +1,14 @@
 -- The sorts of the flows that were read, as long as names may still be added.
-use Rattle.std.proofs.Common.{◌≡◌, ℕ, suc, ◌-◌, ◌≤◌, Bool, true, false, cond, List, [], ◌∷◌, ◌++◌, length, map, replicate, refl, ap, arith, rules, length-append, Option, Some, None}
+use Rattle.std.proofs.Common.{◌≡◌, ℕ, zero, suc, ◌-◌, ◌≤◌, Bool, true, false, cond, List, [], ◌∷◌, ◌++◌, length, map, replicate, refl, ap, ◌∙◌, arith, rules, length-append, Option, Some, None}
 use Rattle.std.specs.Prelude.{slice_get, ◌&&◌, ◌||◌, not, nat_eq}
 use Rattle.std.specs.List.{list_all, list_any}
+use Rattle.std.proofs.lemmas.Bool.{or_parts}
 use Rattle.std.proofs.lemmas.List.{length-replicate}
+use Rattle.std.proofs.lemmas.List.Folds.{list_all-append}
 use Rattle.sk_base.specs.declared.flow.FlowSort.{FlowSort}
 use Rattle.sk_base.specs.declared.flow.FlowSort.TheVariants as sort
 use Rattle.sk_lattice.specs.Domain.{Domain}
-use Rattle.sk_lattice.specs.Empty.{cell_is_empty, store_of, val_is_empty}
+use Rattle.sk_lattice.specs.Empty.{cell_is_empty, store_of, val_is_empty, flow_is_empty, flow_is_proper, is_proper}
 use Rattle.sk_lattice.specs.Padding.{padded_cells, padded_flow, unset_cell}
 use Rattle.sk_lattice.specs.Shapes.{flow_has_sort, has_sorts}
 use Rattle.sk_lattice.specs.Truth.{bool_is_empty}
@@ -118,3 +120,26 @@ padded_has_sort {d = d} {names = names} (a_store {cells = cells} long proper) = 
 pub padded_have_sorts : {D : Type 0} {d : Domain D} {names : ℕ} {sorts : List FlowSort} {flows : List (AbsFlow D)} → HaveShapes d names sorts flows → has_sorts names sorts (map (padded_flow d names) flows) ≡ true
 padded_have_sorts no_flow = refl
 padded_have_sorts (a_flow shape shapes) = both _ _ (padded_has_sort shape) (padded_have_sorts shapes)
+
+not_unset : (b : Bool) → not (b && not true) ≡ true
+not_unset true = refl
+not_unset false = refl
+
+unset_full : {D : Type 0} (d : Domain D) (n : ℕ) → list_all (λ c. not (cell_is_empty d c)) (replicate n (unset_cell d)) ≡ true
+unset_full d zero = refl
+unset_full d (suc n) = both _ _ (not_unset (val_is_empty d (unset_cell d).val)) (unset_full d n)
+
+full_is_proper : {D : Type 0} {d : Domain D} {names : ℕ} {s : FlowSort} {x : AbsFlow D} → HasShape d names s x → flow_is_empty d x ≡ false → flow_is_proper d (padded_flow d names x) ≡ true
+full_is_proper an_int e = ap not e
+full_is_proper a_bool e = ap not e
+full_is_proper a_val e = ap not e
+full_is_proper no_store e = absurd (cc)
+full_is_proper {d = d} {names = names} (a_store {cells = cells} long proper) e =
+    list_all-append (λ c. not (cell_is_empty d c)) cells (replicate (names - length cells) (unset_cell d)) ∙ both _ _ proper (unset_full d (names - length cells))
+
+-- where no flow is empty, no part of the padded ones is
+pub full_are_proper : {D : Type 0} {d : Domain D} {names : ℕ} {sorts : List FlowSort} {flows : List (AbsFlow D)} → HaveShapes d names sorts flows → list_any (flow_is_empty d) flows ≡ false → is_proper d (map (padded_flow d names) flows) ≡ true
+full_are_proper no_flow e = refl
+full_are_proper {d = d} (a_flow {x = x} {flows = flows} shape shapes) e =
+    let p = or_parts (flow_is_empty d x) (list_any (flow_is_empty d) flows) e in
+    both _ _ (full_is_proper shape p.0) (full_are_proper shapes p.1)

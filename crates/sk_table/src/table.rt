@@ -9,6 +9,7 @@ ghost use Rattle.sk_lex.specs.Turns.{bad_of as refused_of};
 ghost use Rattle.sk_table.specs.Fits.{TripleFits};
 ghost use Rattle.sk_table.specs.Meets.{bad_of};
 ghost use Rattle.sk_table.specs.Tables.{read_symbols, read_table, triples_read};
+ghost use Rattle.sk_table.specs.Written.{IsTable};
 
 use crate::expected::TableExpected;
 use crate::fault::{TableError, TableFault};
@@ -35,7 +36,7 @@ fn read_triples<D: NumDom>(
     requires fits { DefinitionFits def.now }
     requires tokens { tokens_of text.now ≡ Ok tokens.now }
     ensures gives { Gives (λ table. table) refused_of result (triples_read (read_symbols D.domain D.texts def.now arena.now names.now (symbols text.now tokens.now))) }
-    ensures fits { IfOk result (All (TripleFits def.now arena.now (length names.now))) }
+    ensures table { IfOk result (IsTable D.domain def.now arena.now (length names.now)) }
 {
     let mut reader = TableReader::new(alloc, def, arena, names);
     read_whole(
@@ -73,6 +74,9 @@ pub fn read_table<D: NumDom>(
 
     // Each triple has a declared hook, a point of its sort, and inputs and outputs of its sorts over the names.
     ensures fits { IfOk result (All (TripleFits def.now arena.now (length names.now))) }
+
+    // There are at most 32,768 of them, and no part of them is empty.
+    ensures table { IfOk result (IsTable D.domain def.now arena.now (length names.now)) }
 {
     let tokens = match tokens(alloc, text) {
         Ok(tokens) => tokens,
