@@ -1,5 +1,5 @@
 -- The derivations of a call, one for each world that the walk of its rule ends in.
-use Rattle.std.proofs.Common.{◌≡◌, ℕ, zero, suc, ◌+◌, ◌<◌, ◌≤◌, List, [], ◌∷◌, ◌++◌, length, drop, get_or, Some, None, refl, ap, sym, subst, ◌∙◌, arith, add-one, drop-cons, append_assoc, append-nil, length-append}
+use Rattle.std.proofs.Common.{◌≡◌, ℕ, zero, suc, ◌+◌, ◌<◌, ◌≤◌, List, [], ◌∷◌, ◌++◌, length, drop, get_or, Some, refl, ap, sym, subst, ◌∙◌, arith, add-one, drop-cons, append_assoc, append-nil, length-append}
 use Rattle.std.specs.List.{All, filter_map, cons_option}
 use Rattle.std.specs.Option.{option_map}
 use Rattle.std.proofs.Math.ListN.{drop_of_length-le}
@@ -52,13 +52,6 @@ module _ (c : Call) (rule : Rule) (before : List Node) (ws : List World) where
 
     pub below_now : AreThere (length before) ws → All (IsBelow (length now)) w.steps
     below_now there = below_more (length before) (length now) w.steps (omega (arith, ap length h.closes.grown, length-append before h.closes.more)) (world_there there)
-
-    pub closed_skip : values_at w.env rule.outputs ≡ None → ClosedSoFar now trees (k + 1)
-    closed_skip e = record {
-      ts = h.ts;
-      closes = h.closes;
-      whole = ap (λ o. h.ts ++ cons_option (option_map (derivation c.hook c.point c.ins trail.0) o) (ends (drop (k + 1) ws))) (sym e) ∙ ap (λ ds. h.ts ++ ds) (sym at_turn) ∙ h.whole;
-    }
 
     pub closed_next : (outs : Values) (now' : List Node) (tree : Tree) (trees' : List Tree) → AreThere (length before) ws → values_at w.env rule.outputs ≡ Some outs →
         now' ≡ now ++ node_of c w outs ∷ [] → tree.root ≡ length now → tree.outs ≡ outs → trees' ≡ trees ++ tree ∷ [] → ClosedSoFar now' trees' (k + 1)

@@ -2,8 +2,11 @@ pub mod Bounds
 pub mod CallsAnswered
 pub mod Closing
 pub mod Ends
+pub mod FilterResults
 pub mod FirstRoots
+pub mod Fitted
 pub mod Forests
+pub mod ListExists
 pub mod Lists
 pub mod Paths
 pub mod RulesFound
@@ -13,3 +16,4 @@ pub mod There
 pub mod Turned
 pub mod Turns
 pub mod Walked
+pub mod WorldsFit

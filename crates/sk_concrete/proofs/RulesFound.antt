@@ -1,5 +1,5 @@
 -- The rule of a call in a well-sorted definition.
-use Rattle.std.proofs.Common.{◌≡◌, ℕ, zero, suc, ◌+◌, Bool, true, false, ◌&&◌, cond, eqb, List, [], ◌∷◌, ◌++◌, length, take, Option, Some, None, refl, ap, sym, subst, ◌∙◌, arith, slice_get}
+use Rattle.std.proofs.Common.{◌≡◌, ℕ, zero, suc, ◌+◌, Bool, true, false, ◌&&◌, cond, eqb, List, [], ◌∷◌, ◌++◌, length, map, take, Option, Some, None, refl, ap, sym, subst, ◌∙◌, arith, slice_get}
 use Rattle.std.specs.Prelude.{find}
 use Rattle.std.specs.List.{filter_map}
 use Rattle.std.specs.Option.{option_map, option_map_or}
@@ -12,6 +12,8 @@ use Rattle.sk_def.specs.declared.def.Rule.{Rule}
 use Rattle.sk_def.specs.declared.def.Hook.{Hook}
 use Rattle.sk_def.specs.declared.def.Con.{Con}
 use Rattle.sk_def.specs.Rules.{is_rule_for, rule_of}
+use Rattle.sk_def.specs.declared.sorts.VarSort.TheVariants.{Flow as OfFlow}
+use Rattle.sk_def.specs.Sorts.{HaveSorts}
 use Rattle.sk_def.specs.Fits.{RuleFits, HookFits}
 use Rattle.sk_walk.specs.Sorted.{Sorted}
 use Rattle.sk_sort.specs.declared.error.SortError.TheVariants.{WrongSort, DuplicateRule}
@@ -23,7 +25,8 @@ use Rattle.sk_sort.specs.Definition.{DefinitionIsSorted}
 use Rattle.sk_sort.proofs.Passes.{one_passes, count_passes}
 use Rattle.sk_sort.proofs.WellSorted.{both_none}
 use Rattle.sk_term.specs.declared.node.TermNode.{TermNode}
-use Rattle.sk_term.specs.Program.{Program, con_of_point, children_of_point}
+use Rattle.sk_term.specs.Program.{Program, IsProgramOf, ChildrenFit, con_of_point, children_of_point}
+use Rattle.sk_term.proofs.Entries.{entries_fit}
 use Rattle.sk_term.specs.Terms.{arguments_of}
 use Rattle.sk_deriv.specs.declared.call.Call.{Call}
 use Rattle.sk_deriv.specs.Env.{start_of}
@@ -32,6 +35,7 @@ use Rattle.sk_deriv.specs.Listing.{trails, closed, rule_at, derivations}
 use Rattle.sk_concrete.specs.Found.{setting_of}
 use Rattle.sk_concrete.specs.Rules.{RuleFor}
 use Rattle.sk_concrete.proofs.Bounds.{all_at, sorts_counted}
+use Rattle.sk_concrete.proofs.Fitted.{start_env_fits}
 
 -- the first element that passes stands in the list
 first_found : {A : Type 0} (p : A → Bool) (xs : List A) (x : A) → find p xs ≡ Some x → (k : ℕ) × (slice_get xs k ≡ Some x) × (p x ≡ true)
@@ -79,8 +83,9 @@ header_counted d earlier rule hook con e f h =
 
 pub rule_for : (d : Def) (program : Program) (c : Call) (node : TermNode) (rule : Rule) (hook : Hook) (con : Con) → DefinitionIsSorted d →
     slice_get program.nodes c.point ≡ Some node → rule_of d c.hook node.con ≡ Some rule → slice_get d.hooks rule.hook.0 ≡ Some hook → slice_get d.cons rule.con.0 ≡ Some con →
-    length node.children ≡ length con.args → fit_hook (setting_of d program) c.hook c.ins ≡ true → RuleFor (setting_of d program) c rule hook con
-rule_for d program c node rule hook con is_sorted at found hook-is con-is counted fit =
+    length node.children ≡ length con.args → fit_hook (setting_of d program) c.hook c.ins ≡ true → have_sorts program.names hook.inputs c.ins ≡ true →
+    ChildrenFit d program.nodes program.names (children_of_point program.nodes c.point) con.args → RuleFor (setting_of d program) c rule hook con
+rule_for d program c node rule hook con is_sorted at found hook-is con-is counted fit ins children =
     let r = rule_there d c.hook node.con rule found in
     let fits : RuleFits d rule = all_at (RuleFits d) d.rules r.place rule is_sorted.well_sorted.fits.rules_fit r.at in
     let sorted : RuleIsSorted d rule = all_at (RuleIsSorted d) d.rules r.place rule is_sorted.rules_sorted r.at in
@@ -91,6 +96,7 @@ rule_for d program c node rule hook con is_sorted at found hook-is con-is counte
     let outputs : length rule.outputs ≡ length hook.outputs = sorts_counted sorted.after rule.outputs sorted.hook.outputs sorted.outputs ∙ ap (λ (h : Hook). length h.outputs) same_hook in
     record {
       ins_fit = fit;
+      hook_is = ap (slice_get d.hooks) (sym r.of_hook) ∙ hook-is;
       node = node;
       node_is = at;
       rule_is = found;
@@ -105,6 +111,8 @@ rule_for d program c node rule hook con is_sorted at found hook-is con-is counte
       after = sorted.after;
       bones_sorted = subst (λ (h : Hook). Sorted d con.sort 1 rule.bones (header_sorts rule h con) sorted.after) same_hook
           (subst (λ (k : Con). Sorted d k.sort 1 rule.bones (header_sorts rule sorted.hook k) sorted.after) same_con sorted.bones);
+      outputs_sorted = subst (λ (h : Hook). HaveSorts sorted.after rule.outputs (map OfFlow h.outputs)) same_hook sorted.outputs;
+      start_fits = start_env_fits d program.nodes program.names rule hook con (children_of_point program.nodes c.point) c.ins children ins;
     }
 
 -- Calls without a derivation.
@@ -146,11 +154,12 @@ module _ (d : Def) (program : Program) (c : Call) (id : ConId) (rule : Rule) (ho
   pub unfit : false ≡ have_sorts program.names hook.inputs c.ins → (n : ℕ) → derivations (setting_of d program) n c ≡ []
   unfit e = no_fit (setting_of d program) c (fitting ∙ sym e)
 
-  pub some_rule : (con : Con) → DefinitionIsSorted d → slice_get d.cons rule.con.0 ≡ Some con → con_of_point program.nodes c.point ≡ Some id →
+  pub some_rule : (con : Con) → DefinitionIsSorted d → IsProgramOf d program → slice_get d.cons rule.con.0 ≡ Some con → con_of_point program.nodes c.point ≡ Some id →
       length (children_of_point program.nodes c.point) ≡ length (arguments_of d id) → true ≡ have_sorts program.names hook.inputs c.ins → RuleFor (setting_of d program) c rule hook con
-  some_rule con is_sorted con-is at counted e =
+  some_rule con is_sorted of_program con-is at counted e =
       let r = rule_there d c.hook id rule found in
       let node = node_of_con (λ (n : TermNode). n.con) (slice_get program.nodes c.point) id at in
       let children : length node.0.children ≡ length (arguments_of d id) = rw node.1 at counted in
       let arguments : arguments_of d id ≡ con.args = ap (λ (o : Option Con). option_map_or (λ (entry : Con). entry.args) o []) (ap (slice_get d.cons) (sym r.of_con) ∙ con-is) in
-      rule_for d program c node.0 rule hook con is_sorted node.1 (ap (rule_of d c.hook) node.2 ∙ found) hook-is con-is (children ∙ ap length arguments) (fitting ∙ sym e)
+      rule_for d program c node.0 rule hook con is_sorted node.1 (ap (rule_of d c.hook) node.2 ∙ found) hook-is con-is (children ∙ ap length arguments) (fitting ∙ sym e) (sym e)
+      (subst (ChildrenFit d program.nodes program.names (children_of_point program.nodes c.point)) (ap (arguments_of d) node.2 ∙ arguments) (entries_fit d program c.point node.0 of_program node.1))

@@ -6,8 +6,8 @@ use Rattle.sk_deriv.specs.declared.call.Call.{Call}
 use Rattle.sk_deriv.specs.declared.forest.Node.{Node}
 use Rattle.sk_deriv.specs.Tree.{Derivation, done}
 use Rattle.sk_deriv.specs.Moves.{Setting}
-use Rattle.sk_concrete.specs.declared.world.Worlds.{Worlds}
-use Rattle.sk_concrete.specs.declared.world.Tree.{Tree}
+use Rattle.sk_concrete.specs.declared.worlds.Worlds.{Worlds}
+use Rattle.sk_concrete.specs.declared.world.Answer.{Answer}
 use Rattle.sk_concrete.specs.declared.concrete.Concrete.{Concrete}
 use Rattle.sk_concrete.specs.declared.concrete.ConcreteStop.{ConcreteStop}
 use Rattle.sk_concrete.specs.declared.concrete.ConcreteStop.TheVariants.{Unanswered, NoMemory}
@@ -19,13 +19,13 @@ use Rattle.sk_concrete.proofs.There.{All-none}
 use Rattle.sk_concrete.proofs.Walked.{Goes, walked}
 
 -- a reading of a call's rule with these answers, from the one world that the rule starts from
-pub record Begins (s : Setting) (c : Call) (rule : Rule) (handed : List (List Tree)) (r : Concrete) (w : Worlds) : Type 0 where
+pub record Begins (s : Setting) (c : Call) (rule : Rule) (handed : List Answer) (r : Concrete) (w : Worlds) : Type 0 where
   pub names_are : r.names ≡ s.names
   pub point_is : r.point ≡ c.point
   pub handed_are : r.handed.now ≡ handed
   pub one : w.list ≡ world_of (start_at s.nodes rule c) ∷ []
 
-module _ (s : Setting) (c : Call) (rule : Rule) (handed : List (List Tree)) (r t : Concrete) (w : Worlds) (begins : Begins s c rule handed r w) where
+module _ (s : Setting) (c : Call) (rule : Rule) (handed : List Answer) (r t : Concrete) (w : Worlds) (begins : Begins s c rule handed r w) where
   abbrev start : List Path
   start = (0, (done, start_at s.nodes rule c)) ∷ []
 

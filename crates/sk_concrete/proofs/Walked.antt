@@ -14,8 +14,8 @@ use Rattle.sk_deriv.specs.Tree.{Derivation, Steps}
 use Rattle.sk_deriv.proofs.TrailLemmas.{followed_by_done}
 use Rattle.sk_sort.proofs.Walked.{shorter-drop, shorter-branch}
 use Rattle.sk_concrete.specs.declared.world.World.{World}
-use Rattle.sk_concrete.specs.declared.world.Worlds.{Worlds}
-use Rattle.sk_concrete.specs.declared.world.Tree.{Tree}
+use Rattle.sk_concrete.specs.declared.worlds.Worlds.{Worlds}
+use Rattle.sk_concrete.specs.declared.world.Answer.{Answer}
 use Rattle.sk_concrete.specs.declared.concrete.Concrete.{Concrete}
 use Rattle.sk_concrete.specs.declared.concrete.ConcreteStop.{ConcreteStop}
 use Rattle.sk_concrete.specs.declared.concrete.ConcreteStop.TheVariants.{Unanswered, NoMemory}
@@ -31,7 +31,7 @@ use Rattle.sk_concrete.proofs.CallsAnswered.{Took, Takes, path_calls, taken_in_o
 use Rattle.sk_concrete.proofs.Ends.{ends_of, path_merged, paths_merged, merged_all}
 
 -- the next call among further ones
-next_in_front : (cs more : List Call) (handed : List (List Tree)) (c : Call) → IsNext cs handed c → IsNext (cs ++ more) handed c
+next_in_front : (cs more : List Call) (handed : List Answer) (c : Call) → IsNext cs handed c → IsNext (cs ++ more) handed c
 next_in_front cs more handed c n = record {
   before = n.before;
   after = n.after ++ more;
@@ -39,7 +39,7 @@ next_in_front cs more handed c n = record {
   counted = n.counted;
 }
 
-next_behind : (front cs : List Call) (handed left : List (List Tree)) (c : Call) → length handed ≡ length front + length left → IsNext cs left c → IsNext (front ++ cs) handed c
+next_behind : (front cs : List Call) (handed left : List Answer) (c : Call) → length handed ≡ length front + length left → IsNext cs left c → IsNext (front ++ cs) handed c
 next_behind front cs handed left c l n = record {
   before = front ++ n.before;
   after = n.after;
@@ -81,7 +81,7 @@ module _ (nodes : List Node) (names point : ℕ) (known : Call → List Derivati
   no_answer_missing s t w expected cs more ws (Unanswered c) h = absurd h
   no_answer_missing s t w expected cs more ws NoMemory h = tt
 
-  front_agrees : (handed : List (List Tree)) (a b more : List Call) → Agrees nodes known handed ((a ++ b) ++ more) → Agrees nodes known handed (a ++ (b ++ more))
+  front_agrees : (handed : List Answer) (a b more : List Call) → Agrees nodes known handed ((a ++ b) ++ more) → Agrees nodes known handed (a ++ (b ++ more))
   front_agrees handed a b more h = subst (Agrees nodes known handed) (append_assoc a b more) h
 
   spread_none : (fuel : ℕ) (vs : List Path) → vs ≡ spread_all names point known fuel [] vs

@@ -14,8 +14,8 @@ use Rattle.sk_deriv.specs.Env.{export, values_at, target_at}
 use Rattle.sk_deriv.specs.Moves.{Setting}
 use Rattle.sk_deriv.specs.Listing.{Trail, followed_by, call_at, trails}
 use Rattle.sk_concrete.specs.declared.world.World.{World}
-use Rattle.sk_concrete.specs.declared.world.Worlds.{Worlds}
-use Rattle.sk_concrete.specs.declared.world.Tree.{Tree}
+use Rattle.sk_concrete.specs.declared.worlds.Worlds.{Worlds}
+use Rattle.sk_concrete.specs.declared.world.Answer.{Answer}
 use Rattle.sk_concrete.specs.declared.concrete.ConcreteStop.{ConcreteStop}
 use Rattle.sk_concrete.specs.declared.concrete.ConcreteStop.TheVariants.{Unanswered, NoMemory}
 use Rattle.sk_concrete.specs.Rules.{start_at}
@@ -70,13 +70,13 @@ module _ (names point : ℕ) (known : Call → List Derivation) where
       ++ calls fuel (after_branches counts bones) (flat_map (branched fuel counts exports bones) vs)
 
 -- the first answers are those of the first calls, as far as both lists go
-abbrev pub Agrees : List Node → (Call → List Derivation) → List (List Tree) → List Call → Type 0
+abbrev pub Agrees : List Node → (Call → List Derivation) → List Answer → List Call → Type 0
 Agrees nodes known [] cs = Unit {0}
-Agrees nodes known (trees ∷ later) [] = Unit {0}
-Agrees nodes known (trees ∷ later) (c ∷ cs) = Stand nodes trees (known c) × Agrees nodes known later cs
+Agrees nodes known (answer ∷ later) [] = Unit {0}
+Agrees nodes known (answer ∷ later) (c ∷ cs) = ((answer.hook.0 ≡ c.hook.0) × Stand nodes answer.trees (known c)) × Agrees nodes known later cs
 
 -- this is the call after as many as there are answers
-pub record IsNext (cs : List Call) (handed : List (List Tree)) (c : Call) : Type 0 where
+pub record IsNext (cs : List Call) (handed : List Answer) (c : Call) : Type 0 where
   pub before : List Call
   pub after : List Call
   pub whole : cs ≡ before ++ c ∷ after
@@ -91,7 +91,7 @@ abbrev pub rule_trails : Setting → (Call → List Derivation) → Call → Rul
 rule_trails s known c rule = trails s.names c.point known (length rule.bones) rule.bones (start_at s.nodes rule c)
 
 -- An Ok has the trails through the rule, where the answers are those of its first calls; a stop is the call after them.
-abbrev pub RuleWalks : Setting → Call → Rule → List (List Tree) → Result Worlds ConcreteStop → Type 0
+abbrev pub RuleWalks : Setting → Call → Rule → List Answer → Result Worlds ConcreteStop → Type 0
 RuleWalks s c rule handed (Ok v) = (nodes : List Node) (known : Call → List Derivation) → Agrees nodes known handed (rule_calls s known c rule) →
     (paths nodes v.list ≡ map (λ p. (0, p)) (rule_trails s known c rule)) × AreThere (length nodes) v.list
 RuleWalks s c rule handed (Err (Unanswered d)) = (nodes : List Node) (known : Call → List Derivation) → Agrees nodes known handed (rule_calls s known c rule) →

@@ -1,4 +1,5 @@
 pub mod Worlds
+pub mod Fitting
 pub mod Stops
 pub mod Found
 pub mod Meaning

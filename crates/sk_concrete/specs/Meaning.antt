@@ -4,7 +4,7 @@ use Rattle.std.specs.List.{flat_map}
 use Rattle.sk_walk.specs.Walks.{Meaning}
 use Rattle.sk_concrete.specs.declared.concrete.Concrete.{Concrete}
 use Rattle.sk_concrete.specs.declared.concrete.ConcreteStop.{ConcreteStop}
-use Rattle.sk_concrete.specs.declared.world.Worlds.{Worlds}
+use Rattle.sk_concrete.specs.declared.worlds.Worlds.{Worlds}
 use Rattle.sk_concrete.specs.Worlds.{filtered, answers_in_order, forked, merged}
 use Rattle.sk_concrete.specs.Stops.{Makes, MakesAnswered}
 

@@ -1,5 +1,5 @@
 -- Derivations as places in a forest.
-use Rattle.std.specs.Prelude.{◌≡◌, ℕ, ◌<◌, ◌≤◌, List, [], ◌∷◌, ◌++◌, length, map, All, Contains, ◌⊎◌}
+use Rattle.std.specs.Prelude.{◌≡◌, true, ℕ, ◌<◌, ◌≤◌, List, [], ◌∷◌, ◌++◌, length, map, All, Contains, ◌⊎◌}
 use Rattle.sk_filter.specs.Arguments.{Values}
 use Rattle.sk_deriv.specs.declared.call.Call.{Call}
 use Rattle.sk_deriv.specs.declared.forest.Node.{Node}
@@ -8,7 +8,9 @@ use Rattle.sk_deriv.specs.Tree.{Derivation, outs_of}
 use Rattle.sk_deriv.specs.Moves.{Setting}
 use Rattle.sk_deriv.specs.Listing.{Trail, derivations, outcomes}
 use Rattle.sk_deriv.specs.Results.{Results}
+use Rattle.sk_def.specs.Sorts.{outputs_of}
 use Rattle.sk_concrete.specs.Found.{NodesDerive}
+use Rattle.sk_concrete.specs.Fitting.{trees_fit}
 use Rattle.sk_concrete.specs.declared.world.World.{World}
 use Rattle.sk_concrete.specs.declared.world.Tree.{Tree}
 
@@ -45,12 +47,14 @@ pub record Closes (before after : List Node) (trees : List Tree) (ts : List Deri
   pub stand : Stand after trees ts
   pub are_new : (k : ℕ) → length before ≤ k → k < length after → Contains ts (tree_at after k)
 
--- the forest has grown by derivations of height at most n, and the places are those of all derivations of the call to n
+-- the forest has grown by derivations of height at most n, and the places are those of all derivations of the call to n,
+-- whose outputs are of the sorts of the hook's
 pub record Derives (s : Setting) (n : ℕ) (c : Call) (before after : List Node) (trees : List Tree) : Type 0 where
   pub more : List Node
   pub grown : after ≡ before ++ more
   pub stand : Stand after trees (derivations s n c)
   pub nodes_derive : (m : ℕ) → n ≤ m → NodesDerive s m before → NodesDerive s m after
+  pub fit : trees_fit (outputs_of s.def c.hook) trees ≡ true
 
 -- where the places stand for all derivations of a call, these are those of its results
 abbrev pub KeepsFirst : List Tree → List ℕ → Type 0

@@ -14,6 +14,7 @@ use Rattle.sk_deriv.specs.Moves.{results_at}
 use Rattle.sk_deriv.specs.Listing.{call_at}
 use Rattle.sk_concrete.specs.declared.world.World.{World}
 use Rattle.sk_concrete.specs.declared.world.Tree.{Tree}
+use Rattle.sk_concrete.specs.declared.world.Answer.{Answer}
 
 -- these steps, and then this one if it is one
 abbrev pub and_then : List Step → Option Step → List Step
@@ -44,7 +45,7 @@ abbrev pub answered : List Var → World → List Tree → List World
 answered outs w trees = map (λ (tree : Tree). world_after (Some (Step.Sub tree.root)) outs tree.outs w) trees
 
 -- these worlds, and then those of the answer
-abbrev pub after_worlds : List World → Result (List World × List (List Tree)) Call → Result (List World × List (List Tree)) Call
+abbrev pub after_worlds : List World → Result (List World × List Answer) Call → Result (List World × List Answer) Call
 after_worlds ws (Ok p) = Ok (ws ++ p.0, p.1)
 after_worlds ws (Err c) = Err c
 
@@ -53,16 +54,18 @@ module _ (point : ℕ) (hook : HookId) (target : Target) (args outs : List Var) 
   abbrev pub call_from : World → Option Call
   call_from w = call_at hook (target_at point w.env target) (values_at w.env args)
 
-  -- what a world's call gives by the next answer, and then the further worlds; or the call, where there is no answer
-  abbrev pub by_next_answer : List (List Tree) → Option Call → World → (List (List Tree) → Result (List World × List (List Tree)) Call) →
-      Result (List World × List (List Tree)) Call
+  -- what a world's call gives by the next answer, and then the further worlds; or the call, where there is no answer to
+  -- a call of its hook
+  abbrev pub by_next_answer : List Answer → Option Call → World → (List Answer → Result (List World × List Answer) Call) →
+      Result (List World × List Answer) Call
   by_next_answer handed None w further = further handed
   by_next_answer [] (Some c) w further = Err c
-  by_next_answer (trees ∷ later) (Some c) w further = after_worlds (answered outs w trees) (further later)
+  by_next_answer (answer ∷ later) (Some c) w further =
+      if answer.hook.0 == c.hook.0 then after_worlds (answered outs w answer.trees) (further later) else Err c
 
   -- the worlds after a hook bone, where the calls of the worlds are answered in order, with the answers that are left;
   -- or the first call beyond them
-  abbrev pub answers_in_order : List (List Tree) → List World → Result (List World × List (List Tree)) Call
+  abbrev pub answers_in_order : List Answer → List World → Result (List World × List Answer) Call
   answers_in_order handed [] = Ok ([], handed)
   answers_in_order handed (w ∷ ws) = by_next_answer handed (call_from w) w (λ later. answers_in_order later ws)
 

@@ -1,10 +1,11 @@
 //! What a branch bone makes of worlds.
 ghost use Rattle.std.specs.Prelude.{◌≡◌, ◌++◌, map, IfOk, OnOk};
-ghost use Rattle.sk_concrete.specs.declared.world.Worlds.{Worlds};
+ghost use Rattle.sk_concrete.specs.declared.worlds.Worlds.{Worlds};
 ghost use Rattle.sk_concrete.specs.Worlds.{forked, joined, joined_end, joined_ends, merged};
 
 use crate::env::{copy_env, export};
-use crate::world::{World, Worlds};
+use crate::world::World;
+use crate::worlds::Worlds;
 use sk_base::{NoMemory, Seq};
 use sk_def::Var;
 use sk_deriv::Step;

@@ -2,11 +2,13 @@
 ghost use Rattle.std.specs.Prelude.{◌≡◌, ◌<◌, length, map, true, All, IfOk};
 ghost use Rattle.sk_def.specs.Sorts.{Sorts, after_merge, MergePasses};
 ghost use Rattle.sk_def.specs.Layout.{AreBelow};
+ghost use Rattle.sk_concrete.specs.Fitting.{answers_fit};
 
 use crate::branches::{forked, merged};
 use crate::filters::filtered;
 use crate::hooks::answered;
-use crate::world::{Tree, World, Worlds};
+use crate::world::Answer;
+use crate::worlds::Worlds;
 use sk_base::{NoMemory, Seq};
 use sk_def::{Filter, HookId, SortId, Target, VarList};
 use sk_deriv::Call;
@@ -32,7 +34,8 @@ impl From<NoMemory> for ConcreteStop {
 }
 
 /// Reads a rule at a point of a program over so many names. Its worlds are lists of environments with their steps.
-/// The calls of hook bones, by bone and then by environment, are answered in order by lists of derivations.
+/// The calls of hook bones, by bone and then by environment, are answered in order by lists of derivations, whose outputs
+/// are of the sorts of their hooks.
 #[derive(Drop)]
 pub struct Concrete<'a> {
     alloc: Global,
@@ -40,7 +43,8 @@ pub struct Concrete<'a> {
     own: SortId,
     point: u16,
     names: usize,
-    handed: &'a [Seq<Tree>],
+    handed: &'a [Answer],
+    ghost fit: { answers_fit checked.now handed.now ≡ true },
 }
 
 impl<'a> Concrete<'a> {
@@ -51,8 +55,9 @@ impl<'a> Concrete<'a> {
         own: SortId,
         point: u16,
         names: usize,
-        handed: &'a [Seq<Tree>],
+        handed: &'a [Answer],
     ) -> Self
+        requires { answers_fit checked.now handed.now ≡ true }
         ensures reads { result.checked.now ≡ checked.now }
         ensures sort { result.own ≡ own }
         ensures at { result.point ≡ point }
@@ -71,7 +76,7 @@ impl<'a> Concrete<'a> {
 }
 
 impl<'a> Interp for Concrete<'a> {
-    ghost use Rattle.sk_concrete.specs.declared.world.Worlds.{Worlds};
+    ghost use Rattle.sk_concrete.specs.declared.worlds.Worlds.{Worlds};
     ghost use Rattle.sk_concrete.specs.Meaning.{concrete_meaning};
 
     type World = Worlds;

@@ -1,15 +1,18 @@
 //! All derivations of a call to a depth.
-ghost use Rattle.std.specs.Prelude.{◌≡◌, ◌<◌, length, IfOk};
+ghost use Rattle.std.specs.Prelude.{◌≡◌, ◌<◌, true, length, IfOk};
+ghost use Rattle.std.specs.List.{list_all};
 ghost use Rattle.sk_term.specs.Program.{IsProgramOf};
 ghost use Rattle.sk_concrete.specs.Found.{setting_of};
 ghost use Rattle.sk_concrete.specs.Rules.{RuleFor};
 ghost use Rattle.sk_concrete.specs.Calls.{RuleWalks};
+ghost use Rattle.sk_concrete.specs.Fitting.{answers_fit, has_values};
 ghost use Rattle.sk_concrete.specs.Trees.{Derives};
 
 use crate::concrete::{Concrete, ConcreteStop};
 use crate::start::{RuleOf, rule_of_call, start};
 use crate::tree::close;
-use crate::world::{Tree, Worlds};
+use crate::world::{Answer, Tree};
+use crate::worlds::Worlds;
 use sk_base::{NoMemory, Seq};
 use sk_def::{Con, Hook, Rule};
 use sk_deriv::{Call, Forest};
@@ -27,11 +30,13 @@ fn walk_rule(
     rule: &Rule,
     hook: &Hook,
     con: &Con,
-    handed: &[Seq<Tree>],
+    handed: &[Answer],
 ) -> Result<Worlds, ConcreteStop>
     requires program { IsProgramOf checked.now arena.now }
     requires rule { RuleFor (setting_of checked.now arena.now) call.now rule.now hook.now con.now }
-    ensures { RuleWalks (setting_of checked.now arena.now) call.now rule.now handed.now result }
+    requires fit { answers_fit checked.now handed.now ≡ true }
+    ensures outputs { IfOk result (λ worlds. list_all (has_values hook.now.outputs rule.now.outputs) worlds.list ≡ true) }
+    ensures walks { RuleWalks (setting_of checked.now arena.now) call.now rule.now handed.now result }
 {
     let worlds = start(alloc, arena, rule, hook, con, call)?;
     let names = arena.names();
@@ -80,7 +85,10 @@ pub(crate) fn derive(
             }
             Err(ConcreteStop::Unanswered(inner)) => {
                 let trees = derive(alloc, checked, arena, forest, &inner, depth - 1)?;
-                handed.push(trees)?;
+                handed.push(Answer {
+                    hook: inner.hook,
+                    trees,
+                })?;
             }
             Err(ConcreteStop::NoMemory) => return Err(NoMemory),
         }

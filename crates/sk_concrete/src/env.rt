@@ -1,5 +1,5 @@
 //! What the variables of a rule stand for: reading them, and giving them values.
-ghost use Rattle.std.specs.Prelude.{◌≡◌, ◌≤◌, length, replicate, None, IfOk, OnOk};
+ghost use Rattle.std.specs.Prelude.{◌≡◌, ◌≤◌, length, replicate, true, is_some, Some, None, IfOk, OnOk};
 ghost use Rattle.std.specs.Option.{option_copied, option_and_then};
 ghost use Rattle.sk_deriv.specs.Env.{entry_of, flow_in, args_at, values_at, target_at, gain, export, bind_children, entry_of_child};
 ghost use Rattle.sk_deriv.specs.Moves.{arg_in};
@@ -62,74 +62,64 @@ fn entry_of(env: &Env, variable: Var) -> Option<&Entry<Flow>>
 }
 
 /// The value of a variable.
-fn flow_of(env: &Env, variable: Var) -> Option<&Flow>
-    ensures { option_copied result ≡ option_and_then flow_in (entry_of env.now variable) }
+fn flow_of(env: &Env, variable: Var) -> &Flow
+    requires { is_some (option_and_then flow_in (entry_of env.now variable)) ≡ true }
+    ensures { option_and_then flow_in (entry_of env.now variable) ≡ Some result.now }
 {
     match entry_of(env, variable) {
-        Some(Entry::Flow(flow)) => Some(flow),
-        _ => None,
+        Some(Entry::Flow(flow)) => flow,
+        _ => unreachable!(),
     }
 }
 
 /// The argument of a filter that a variable is.
-fn arg_of(alloc: Global, env: &Env, variable: Var) -> Result<Option<Arg>, NoMemory>
-    ensures { IfOk result (λ arg. arg ≡ option_and_then arg_in (entry_of env.now variable)) }
+fn arg_of(alloc: Global, env: &Env, variable: Var) -> Result<Arg, NoMemory>
+    requires { is_some (option_and_then arg_in (entry_of env.now variable)) ≡ true }
+    ensures { IfOk result (λ arg. option_and_then arg_in (entry_of env.now variable) ≡ Some arg) }
 {
     Ok(match entry_of(env, variable) {
-        Some(Entry::Number(number)) => Some(Arg::Number(*number)),
-        Some(Entry::Name(name)) => Some(Arg::Name(*name)),
-        Some(Entry::Flow(flow)) => Some(Arg::Flow(flow.copy(alloc)?)),
-        Some(Entry::Point(_)) => None,
-        None => None,
+        Some(Entry::Number(number)) => Arg::Number(*number),
+        Some(Entry::Name(name)) => Arg::Name(*name),
+        Some(Entry::Flow(flow)) => Arg::Flow(flow.copy(alloc)?),
+        _ => unreachable!(),
     })
 }
 
-/// The arguments of a filter that variables are, where each is one.
-pub(crate) fn args_at(
-    alloc: Global,
-    env: &Env,
-    variables: &[Var],
-) -> Result<Option<Seq<Arg>>, NoMemory>
-    ensures { IfOk result (λ args. args ≡ args_at arg_in env.now variables.now) }
+/// The arguments of a filter that variables are.
+pub(crate) fn args_at(alloc: Global, env: &Env, variables: &[Var]) -> Result<Seq<Arg>, NoMemory>
+    requires { is_some (args_at arg_in env.now variables.now) ≡ true }
+    ensures { IfOk result (λ args. args_at arg_in env.now variables.now ≡ Some args) }
 {
     let mut args = Seq::new(alloc);
     for variable in variables {
-        let Some(arg) = arg_of(alloc, env, *variable)? else {
-            return Ok(None);
-        };
-        args.push(arg)?;
+        args.push(arg_of(alloc, env, *variable)?)?;
     }
-    Ok(Some(args))
+    Ok(args)
 }
 
-/// The values of at most 4 variables, where each has one.
-pub(crate) fn values_at(
-    alloc: Global,
-    env: &Env,
-    variables: &[Var],
-) -> Result<Option<Tuple>, NoMemory>
-    requires { length variables.now ≤ 4 }
-    ensures { IfOk result (λ values. values ≡ values_at env.now variables.now) }
+/// The values of at most 4 variables.
+pub(crate) fn values_at(alloc: Global, env: &Env, variables: &[Var]) -> Result<Tuple, NoMemory>
+    requires few { length variables.now ≤ 4 }
+    requires there { is_some (values_at env.now variables.now) ≡ true }
+    ensures { IfOk result (λ values. values_at env.now variables.now ≡ Some values) }
 {
     let mut values = Tuple::new(alloc);
     for variable in variables {
-        let Some(flow) = flow_of(env, *variable) else {
-            return Ok(None);
-        };
-        values.push(flow.copy(alloc)?)?;
+        values.push(flow_of(env, *variable).copy(alloc)?)?;
     }
-    Ok(Some(values))
+    Ok(values)
 }
 
 /// The point that a hook bone evaluates at, in a rule at this point.
-fn target_at(point: u16, env: &Env, target: Target) -> Option<u16>
-    ensures { result ≡ target_at point env.now target }
+fn target_at(point: u16, env: &Env, target: Target) -> u16
+    requires { is_some (target_at point env.now target) ≡ true }
+    ensures { target_at point env.now target ≡ Some result }
 {
     match target {
-        Target::Own => Some(point),
+        Target::Own => point,
         Target::Sub(variable) => match entry_of(env, variable) {
-            Some(Entry::Point(found)) => Some(*found),
-            _ => None,
+            Some(Entry::Point(found)) => *found,
+            _ => unreachable!(),
         },
     }
 }
@@ -142,17 +132,14 @@ pub(crate) fn call_at(
     hook: HookId,
     target: Target,
     args: &[Var],
-) -> Result<Option<Call>, NoMemory>
-    requires { length args.now ≤ 4 }
-    ensures { IfOk result (λ call. call ≡ call_at hook (target_at point env.now target) (values_at env.now args.now)) }
+) -> Result<Call, NoMemory>
+    requires few { length args.now ≤ 4 }
+    requires there { is_some (call_at hook (target_at point env.now target) (values_at env.now args.now)) ≡ true }
+    ensures { IfOk result (λ call. call_at hook (target_at point env.now target) (values_at env.now args.now) ≡ Some call) }
 {
-    let Some(point) = target_at(point, env, target) else {
-        return Ok(None);
-    };
-    let Some(ins) = values_at(alloc, env, args)? else {
-        return Ok(None);
-    };
-    Ok(Some(Call { hook, point, ins }))
+    let point = target_at(point, env, target);
+    let ins = values_at(alloc, env, args)?;
+    Ok(Call { hook, point, ins })
 }
 
 /// Gives the variables these values, in order.

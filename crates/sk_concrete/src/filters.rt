@@ -1,8 +1,10 @@
 //! What a filter bone makes of worlds.
-ghost use Rattle.std.specs.Prelude.{◌≡◌, ◌≤◌, ◌++◌, length, IfOk, OnOk};
-ghost use Rattle.std.specs.List.{flat_map};
+ghost use Rattle.std.specs.Prelude.{◌≡◌, ◌≤◌, ◌++◌, true, length, IfOk, OnOk};
+ghost use Rattle.std.specs.List.{flat_map, list_all};
+ghost use Rattle.sk_def.specs.Signatures.{parameters};
 ghost use Rattle.sk_filter.specs.Results.{is_choice};
 ghost use Rattle.sk_concrete.specs.Worlds.{the_one, picked, filtered};
+ghost use Rattle.sk_concrete.specs.Fitting.{takes_args};
 
 use crate::env::args_at;
 use crate::world::World;
@@ -54,7 +56,7 @@ fn push_picked(
     Ok(())
 }
 
-/// The worlds after a filter bone, from one world.
+/// The worlds after a filter bone, from one world, in which the arguments are of the filter's sorts.
 fn push_filtered(
     alloc: Global,
     names: usize,
@@ -64,11 +66,10 @@ fn push_filtered(
     world: &World,
     list: &mut Seq<World>,
 ) -> Result<(), NoMemory>
+    requires { takes_args (parameters filter) args.now world.now ≡ true }
     ensures { OnOk result (list.new ≡ list.old ++ filtered names filter args.now outs.now world.now) }
 {
-    let Some(given) = args_at(alloc, &world.env, args)? else {
-        return Ok(());
-    };
+    let given = args_at(alloc, &world.env, args)?;
     let results = apply(alloc, filter, names, given.as_slice())?;
     if is_choice(filter) {
         push_picked(alloc, world, outs, results.as_slice(), list)
@@ -77,7 +78,7 @@ fn push_filtered(
     }
 }
 
-/// The worlds after a filter bone.
+/// The worlds after a filter bone, from worlds in which the arguments are of the filter's sorts.
 pub(crate) fn filtered(
     alloc: Global,
     names: usize,
@@ -86,6 +87,7 @@ pub(crate) fn filtered(
     outs: &[Var],
     worlds: &[World],
 ) -> Result<Seq<World>, NoMemory>
+    requires { list_all (takes_args (parameters filter) args.now) worlds.now ≡ true }
     ensures { IfOk result (λ list. list ≡ flat_map (filtered names filter args.now outs.now) worlds.now) }
 {
     let mut list = Seq::new(alloc);

@@ -11,14 +11,18 @@ mod filters;
 mod fits;
 mod found;
 mod hooks;
+mod laws;
 mod same;
 mod start;
 mod tree;
 mod world;
+mod worlds;
 
 pub use concrete::{Concrete, ConcreteStop};
 pub use found::{Found, NodeList, results};
-pub use world::{World, Worlds};
+pub use laws::each_call_has_results;
+pub use world::{Answer, World};
+pub use worlds::Worlds;
 
 #[cfg(test)]
 mod tests;

@@ -1,15 +1,17 @@
 //! The rule of a call, and the world that it starts from.
-ghost use Rattle.std.specs.Prelude.{◌≡◌, ◌<◌, length, IfOk, IfSome, [], ◌∷◌};
+ghost use Rattle.std.specs.Prelude.{◌≡◌, ◌<◌, true, length, IfOk, IfSome, [], ◌∷◌};
 ghost use Rattle.sk_def.specs.Layout.{AreBelow};
 ghost use Rattle.sk_deriv.specs.Env.{bind_children};
 ghost use Rattle.sk_term.specs.Program.{IsProgramOf, children_of_point};
 ghost use Rattle.sk_sort.specs.Rules.{header_sorts};
 ghost use Rattle.sk_concrete.specs.Found.{setting_of};
 ghost use Rattle.sk_concrete.specs.Rules.{RuleFor, HasNoRule, start_at, world_of};
+ghost use Rattle.sk_concrete.specs.Fitting.{env_fits};
 
 use crate::env::{Env, empty_env, entry_of_child, gain};
 use crate::fits::have_sorts;
-use crate::world::{World, Worlds};
+use crate::world::World;
+use crate::worlds::Worlds;
 use sk_base::{NoMemory, Seq};
 use sk_def::{Con, Hook, Rule, Var};
 use sk_deriv::Call;
@@ -103,6 +105,7 @@ pub(crate) fn start(
     requires inputs_below { AreBelow (length rule.now.vars) rule.now.inputs }
     requires terms_counted { length rule.now.terms ≡ length con.now.args }
     requires inputs_counted { length rule.now.inputs ≡ length hook.now.inputs }
+    requires fits { env_fits (header_sorts rule.now hook.now con.now) (start_at arena.now.nodes rule.now call.now) ≡ true }
     ensures sorts { IfOk result (λ worlds. worlds.sorts ≡ header_sorts rule.now hook.now con.now) }
     ensures list { IfOk result (λ worlds. worlds.list ≡ world_of (start_at arena.now.nodes rule.now call.now) ∷ []) }
 {

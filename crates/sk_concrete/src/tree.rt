@@ -1,7 +1,8 @@
 //! Derivations that were found, as places in a forest.
-ghost use Rattle.std.specs.Prelude.{◌≡◌, ◌≤◌, ◌++◌, ◌∷◌, [], true, length, All, IfOk, OnOk};
+ghost use Rattle.std.specs.Prelude.{◌≡◌, ◌≤◌, ◌++◌, ◌∷◌, [], true, is_some, length, All, IfOk, OnOk};
 ghost use Rattle.sk_deriv.specs.Forest.{IsBelow};
-ghost use Rattle.std.specs.List.{filter_map};
+ghost use Rattle.std.specs.List.{filter_map, list_all};
+ghost use Rattle.sk_deriv.specs.Env.{values_at};
 ghost use Rattle.sk_deriv.specs.Listing.{closed};
 ghost use Rattle.sk_concrete.specs.Trees.{AreThere, Closes, IsAmong, node_of, trails_in};
 
@@ -47,8 +48,7 @@ fn push_tree(
     Ok(Tree { root, outs })
 }
 
-/// Puts the derivations of a call by a rule into the forest, one for each world in which the closing outputs have
-/// values.
+/// Puts the derivations of a call by a rule into the forest, one for each world.
 pub(crate) fn close(
     alloc: Global,
     forest: &mut Forest,
@@ -58,13 +58,12 @@ pub(crate) fn close(
 ) -> Result<Seq<Tree>, NoMemory>
     requires few { length rule.now.outputs ≤ 4 }
     requires there { AreThere (length forest.old) worlds.now }
+    requires outputs { list_all (λ (world : World). is_some (values_at world.env rule.now.outputs)) worlds.now ≡ true }
     ensures { IfOk result (λ trees. Closes forest.old forest.new trees (filter_map (closed call.now rule.now) (trails_in forest.old worlds.now))) }
 {
     let mut trees = Seq::new(alloc);
     for world in worlds {
-        let Some(outs) = values_at(alloc, &world.env, rule.outputs.as_slice())? else {
-            continue;
-        };
+        let outs = values_at(alloc, &world.env, rule.outputs.as_slice())?;
         let tree = push_tree(alloc, forest, call, world, outs)?;
         trees.push(tree)?;
     }

@@ -1,12 +1,11 @@
-//! Worlds: what the variables of a rule stand for after some of its bones, and the steps that lead there.
+//! A world: what the variables of a rule stand for after some of its bones, and the steps that lead there.
 ghost use Rattle.std.specs.Prelude.{◌≡◌, IfOk};
 ghost use Rattle.sk_concrete.specs.Worlds.{and_then, world_after};
 
 use crate::env::{Env, copy_env, gain};
 use sk_base::{NoMemory, Seq};
-use sk_def::Var;
+use sk_def::{HookId, Var};
 use sk_deriv::{Step, StepList};
-use sk_sort::VarSorts;
 use sk_value::{Flow, Tuple};
 use std::alloc::Global;
 
@@ -19,18 +18,18 @@ pub struct World {
     pub(crate) origin: usize,
 }
 
-/// The worlds that some bones lead to, in the order of their steps, and the sorts of their variables.
-#[derive(Drop)]
-pub struct Worlds {
-    pub(crate) sorts: VarSorts,
-    pub(crate) list: Seq<World>,
-}
-
 /// A derivation that was found: the place of its root in the forest, and its outputs.
 #[derive(Drop)]
 pub struct Tree {
     pub(crate) root: usize,
     pub(crate) outs: Tuple,
+}
+
+/// The derivations of a call of this hook.
+#[derive(Drop)]
+pub struct Answer {
+    pub(crate) hook: HookId,
+    pub(crate) trees: Seq<Tree>,
 }
 
 /// These steps, and then this one if it is one.

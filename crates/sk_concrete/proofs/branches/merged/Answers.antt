@@ -1,5 +1,5 @@
 use Rattle.std.proofs.Common.{◌∙◌, map, arith}
-use Rattle.sk_concrete.specs.declared.world.Worlds.{Worlds}
+use Rattle.sk_concrete.specs.declared.worlds.Worlds.{Worlds}
 use Rattle.sk_concrete.proofs.Turns.{merged_turn}
 use Rattle.sk_concrete.proofs.branches.merged.Goals as goal
 

@@ -1,5 +1,5 @@
 use Rattle.std.proofs.Common.{◌≡◌, ◌++◌, drop, map}
-use Rattle.sk_concrete.specs.declared.world.Worlds.{Worlds}
+use Rattle.sk_concrete.specs.declared.worlds.Worlds.{Worlds}
 use Rattle.sk_concrete.specs.Worlds.{joined_ends}
 use Rattle.sk_concrete.proofs.branches.push_joined_ends.Given as goal
 

@@ -27,4 +27,4 @@ returns-clause-some c =
     let con-is : slice_get c.args.checked.now.cons c.in-Some.rule.now.con.0 ≡ Some c.get-con.result.now = rw (c.def-def.ensures.is, c.from-3.ensures) at c.get-con.ensures in
     let tested = rw (c.names.ensures, c.as_slice.ensures, c.as_slice-2.ensures.flows) at c.have_sorts.ensures in
     some_rule c.args.checked.now c.args.arena.now c.args.call.now c.con_at-con.result c.in-Some.rule.now c.get-hook.result.now found hook-is c.get-con.result.now
-    c.def-def.ensures.sorted con-is c.con_at-con.ensures.con (c.con_at-con.ensures.count c.args.checked.now c.requires) (sym c.if-not-have_sorts.false ∙ tested)
+    c.def-def.ensures.sorted c.requires con-is c.con_at-con.ensures.con (c.con_at-con.ensures.count c.args.checked.now c.requires) (sym c.if-not-have_sorts.false ∙ tested)
