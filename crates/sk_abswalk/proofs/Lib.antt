@@ -18,4 +18,8 @@ mod BranchEnds
 mod TableSteps
 mod WalkFrom
 mod Starts
+pub mod Settled
+mod CollectSteps
+mod CollectFrom
+mod OwnOutputs
 mod RulesFound

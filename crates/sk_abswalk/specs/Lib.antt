@@ -9,3 +9,5 @@ pub mod FromTable
 pub mod Branches
 pub mod TableReader
 pub mod RuleAt
+pub mod Keys
+pub mod Collect

@@ -5,8 +5,12 @@
 
 mod answer;
 mod branches;
+mod collect;
+mod collect_walk;
+mod count;
 mod env;
 mod from_table;
+mod key_outputs;
 mod laws;
 mod steps;
 mod stop;
@@ -15,7 +19,11 @@ mod walk;
 mod world;
 
 pub use answer::{is_covered, table_answer};
+pub use collect::Collect;
+pub use collect_walk::{walk_by_key, walk_collect};
+pub use count::Steps;
 pub use from_table::FromTable;
+pub use key_outputs::KeyOutputs;
 pub use laws::{
     accepted_tables_are_sound, answers_of_tables_fit, bounds_do_not_matter, walker_walks,
     walks_agree, walks_are_monotone, walks_are_proper, walks_fit,

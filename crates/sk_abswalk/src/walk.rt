@@ -35,7 +35,7 @@ fn put_children<D: NumDom>(arena: &Arena, env: &mut AbsEnv<D>, point: u16, terms
 }
 
 /// What the variables of a rule stand for before its bones.
-fn start_env<D: NumDom>(
+pub(crate) fn start_env<D: NumDom>(
     alloc: Global,
     arena: &Arena,
     rule: &Rule,
@@ -53,7 +53,12 @@ fn start_env<D: NumDom>(
 }
 
 /// The sorts of a rule's variables before its bones.
-fn start_sorts(alloc: Global, rule: &Rule, hook: &Hook, con: &Con) -> Result<VarSorts, NoMemory>
+pub(crate) fn start_sorts(
+    alloc: Global,
+    rule: &Rule,
+    hook: &Hook,
+    con: &Con,
+) -> Result<VarSorts, NoMemory>
     requires terms_below { AreBelow (length rule.now.vars) rule.now.terms }
     requires inputs_below { AreBelow (length rule.now.vars) rule.now.inputs }
     requires terms_counted { length rule.now.terms ≡ length con.now.args }
@@ -66,7 +71,7 @@ fn start_sorts(alloc: Global, rule: &Rule, hook: &Hook, con: &Con) -> Result<Var
 }
 
 /// The closing tuple of a rule, none where nothing gets there.
-fn close<D: NumDom>(
+pub(crate) fn close<D: NumDom>(
     alloc: Global,
     rule: &Rule,
     world: &World<D>,

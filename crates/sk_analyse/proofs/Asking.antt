@@ -16,7 +16,7 @@ use Rattle.sk_rounds.specs.Accepted.{AskLaws}
 use Rattle.sk_rounds.specs.Accepted as rounds
 use Rattle.sk_rounds.proofs.Lists.{all_more}
 use Rattle.sk_analyse.specs.Reading.{Key, call_with, key_of, keyed, by_key, outcome_of, walk_of_key, walks_of, asked_end, asks_of}
-use Rattle.sk_analyse.proofs.Settled.{Settles, walk_settled}
+use Rattle.sk_abswalk.proofs.Settled.{Settles, walk_settled}
 use Rattle.sk_analyse.proofs.WalkLaws.{GetsTo, gets_to}
 
 pub all_mapped : {A B : Type 0} (P : B → Type 0) (f : A → B) (xs : List A) → AllByRecursion (λ x. P (f x)) xs → AllByRecursion P (map f xs)

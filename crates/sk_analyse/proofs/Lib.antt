@@ -1,4 +1,3 @@
-pub mod Settled
 pub mod Keys
 pub mod Fitting
 pub mod WalkLaws

@@ -27,7 +27,7 @@ use Rattle.sk_rounds.specs.Walks.{Side, Inputs, Outputs, Walks, side_leq, FitSid
 use Rattle.sk_rounds.specs.Tuples.{ReadingLaws}
 use Rattle.sk_rounds.proofs.Lists.{all_both}
 use Rattle.sk_analyse.specs.Reading.{Key, call_with, key_of, keyed, hook_of_key, sorts_of_side, by_key, outcome_of, walk_of_key, reading_of, walks_of, CoversFit}
-use Rattle.sk_analyse.proofs.Settled.{Settles, walk_settled}
+use Rattle.sk_abswalk.proofs.Settled.{Settles, walk_settled}
 use Rattle.sk_analyse.proofs.Keys.{same_key_refl, same_key_only, key_is}
 use Rattle.sk_analyse.proofs.Fitting.{IsGoodCall, good_call, outputs_fit, calls_good, answers_fit, answers_proper}
 

@@ -13,25 +13,13 @@ use Rattle.sk_absfilter.specs.Abstract.{Outcome}
 use Rattle.sk_table.specs.declared.triple.Triple.{Triple}
 use Rattle.sk_table.specs.declared.triple.Cover.{Cover}
 use Rattle.sk_abswalk.specs.Walk.{Flows, Ends, uncovered, ill, with, Walk, Answers, abstract_walk}
+pub use Rattle.sk_abswalk.specs.Keys.{Key, same_key, call_with, key_of, by_key}
 use Rattle.sk_abswalk.specs.Fits.{CallFits}
 use Rattle.sk_rounds.specs.Walks.{Side, Inputs, Outputs, Call, Table, Walks}
 use Rattle.sk_rounds.specs.Accepted.{Asks, Row, rows}
 use Rattle.sk_rounds.specs.Tuples.{Reading, walks_over}
 
--- a hook and a point
-abbrev pub Key : Type 0
-Key = HookId × ℕ
-
-abbrev pub same_key : Key → Key → Bool
-same_key j k = (j.0.0 == k.0.0) && (j.1 == k.1)
-
--- the call of a key with these inputs, and a call as the rounds see it
-abbrev pub call_with : {D : Type 0} → Key → Flows D → Cover D
-call_with k ins = record { hook = k.0; point = k.1; ins = ins }
-
-abbrev pub key_of : {D : Type 0} → Cover D → Key
-key_of c = (c.hook, c.point)
-
+-- a call as the rounds see it
 abbrev pub keyed : {D : Type 0} → Cover D → Call Key (Flows D)
 keyed c = record { key = key_of c; args = c.ins }
 
@@ -45,10 +33,6 @@ hook_of_key s k = option_and_then (λ node. hook_at_node s node (slice_get s.def
 abbrev pub sorts_of_side : Side → Hook → List FlowSort
 sorts_of_side Inputs hook = hook.inputs
 sorts_of_side Outputs hook = hook.outputs
-
--- each call is answered by its key, whatever its inputs
-abbrev pub by_key : {D : Type 0} → (Key → Outcome D) → Answers D
-by_key answers c = Some (answers (key_of c))
 
 -- the outcome that a walk ends with; none where it gets to no end
 abbrev pub outcome_of : {D : Type 0} → Ends D (Flows D) → Outcome D

@@ -14,14 +14,7 @@ use Rattle.sk_abswalk.specs.Tables.{IsAccepted}
 use Rattle.sk_abswalk.specs.Fits.{TripleFits}
 use Rattle.sk_rounds.specs.Walks.{Inputs, Outputs, Table}
 use Rattle.sk_analyse.specs.Reading.{Key, same_key}
-
-abbrev pub key_of_triple : {D : Type 0} → Triple D → Key
-key_of_triple triple = (triple.hook, triple.point)
-
--- no two triples are of one key
-abbrev pub HasOnePerKey : {D : Type 0} → List (Triple D) → Type 0
-HasOnePerKey [] = Unit {0}
-HasOnePerKey (triple ∷ triples) = (list_any (λ other. same_key (key_of_triple other) (key_of_triple triple)) triples ≡ false) × HasOnePerKey triples
+pub use Rattle.sk_abswalk.specs.Keys.{key_of_triple, HasOnePerKey}
 
 -- the triples are of keys of the program, and no part of their tuples is empty
 abbrev pub TriplesFit : {D : Type 0} → Domain D → Setting → List (Triple D) → Type 0

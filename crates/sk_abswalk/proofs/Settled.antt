@@ -12,13 +12,16 @@ use Rattle.sk_lattice.specs.Domain.{Domain}
 use Rattle.sk_absfilter.specs.Abstract.{Outcome}
 use Rattle.sk_table.specs.declared.triple.Cover.{Cover}
 use Rattle.sk_abswalk.specs.Walk.{AbsEnv, Flows, argument_in, Ends, uncovered, ill, with, Walk, quiet, go_on, after, in_world, after_world, there, Answers, call_at, ask, filtered, walk_branches, join_exports, abstract_world, abstract_walk, rule_at, walk_of}
-use Rattle.sk_rounds.proofs.Lists.{all_append}
 
 -- what the calls asked are to the end
 abbrev pub Settles : {D X : Type 0} → Answers D → List (Cover D) → Ends D X → Type 0
 Settles answers asked (uncovered c) = answers c ≡ None
 Settles answers asked ill = Unit {0}
 Settles answers asked (with o) = AllByRecursion (λ c. IsSome (answers c)) asked
+
+all_append : {A : Type 0} (P : A → Type 0) (xs ys : List A) → AllByRecursion P xs → AllByRecursion P ys → AllByRecursion P (xs ++ ys)
+all_append P [] ys h k = k
+all_append P (x ∷ xs) ys h k = (h.0, all_append P xs ys h.1 k)
 
 module _ (D : Type 0) (answers : Answers D) where
   abbrev Settled : {X : Type 0} → Walk D X → Type 0
