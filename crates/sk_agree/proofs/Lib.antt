@@ -1,0 +1,14 @@
+pub mod Relations
+pub mod Readings
+pub mod Lengths
+pub mod KeysFound
+pub mod Below
+pub mod Accepted
+pub mod SortsWalked
+pub mod SortedEnvs
+pub mod Spots
+pub mod Solving
+pub mod BonesSolved
+pub mod WalkSolves
+pub mod Least
+pub mod SpotsBelow
