@@ -51,7 +51,7 @@ unmapped R f [] (c ∷ cs) h = absurd h
 unmapped R f (x ∷ xs) [] h = absurd h
 unmapped R f (x ∷ xs) (c ∷ cs) h = (h.0, unmapped R f xs cs h.1)
 
-zip_both : {A B : Type 0} (R S T : A → B → Type 0) → ((x : A) (y : B) → R x y → S x y → T x y) → (xs : List A) (ys : List B) → AllZip R xs ys → AllZip S xs ys → AllZip T xs ys
+pub zip_both : {A B : Type 0} (R S T : A → B → Type 0) → ((x : A) (y : B) → R x y → S x y → T x y) → (xs : List A) (ys : List B) → AllZip R xs ys → AllZip S xs ys → AllZip T xs ys
 zip_both R S T step [] [] h k = tt
 zip_both R S T step [] (y ∷ ys) h k = absurd h
 zip_both R S T step (x ∷ xs) [] h k = absurd h
@@ -60,25 +60,25 @@ zip_both R S T step (x ∷ xs) (y ∷ ys) h k = (step x y h.0 k.0, zip_both R S 
 -- Where the entries of an assignment stand.
 
 -- no key stands twice in the list
-abbrev Distinct : List Key → Type 0
+abbrev pub Distinct : List Key → Type 0
 Distinct [] = Unit {0}
 Distinct (k ∷ ks) = AllByRecursion (λ j. same_key j k ≡ false) ks × Distinct ks
 
 -- the table that gives every key both sides
-abbrev full : {D : Type 0} → Table Key (Flows D)
+abbrev pub full : {D : Type 0} → Table Key (Flows D)
 full k side = Some []
 
 keys_apart : (D : Type 0) (k : Key) (ks : List Key) → AllByRecursion (λ (t : Triple D). same_key (key_of_triple t) k ≡ false) (map reading.triple_of (flat_map (λ j. row_at j (full {D = D} j Inputs) (full {D = D} j Outputs)) ks)) → AllByRecursion (λ j. same_key j k ≡ false) ks
 keys_apart D k [] h = tt
 keys_apart D k (j ∷ ks) h = (h.0, keys_apart D k ks h.1)
 
-distinct_from : (D : Type 0) (ks : List Key) → HasOnePerKey {D = D} (map reading.triple_of (flat_map (λ j. row_at j (full {D = D} j Inputs) (full {D = D} j Outputs)) ks)) → Distinct ks
+pub distinct_from : (D : Type 0) (ks : List Key) → HasOnePerKey {D = D} (map reading.triple_of (flat_map (λ j. row_at j (full {D = D} j Inputs) (full {D = D} j Outputs)) ks)) → Distinct ks
 distinct_from D [] h = tt
 distinct_from D (k ∷ ks) h =
     (keys_apart D k ks (list_any_entries (λ (t : Triple D). same_key (key_of_triple t) k) (map reading.triple_of (flat_map (λ j. row_at j (full {D = D} j Inputs) (full {D = D} j Outputs)) ks)) h.0), distinct_from D ks h.1)
 
 -- an entry is of the key
-abbrev IsOwn : {D : Type 0} → Key → Solved D → Type 0
+abbrev pub IsOwn : {D : Type 0} → Key → Solved D → Type 0
 IsOwn k s = (s.hook ≡ k.0) × (s.point ≡ k.1)
 
 own_test : {D : Type 0} (j k : Key) (s : Solved D) → IsOwn k s → is_of_key j.0 j.1 s ≡ same_key k j
@@ -88,7 +88,7 @@ other_way : (j k : Key) → same_key j k ≡ false → same_key k j ≡ false
 other_way j k n = false_from_ne_true (same_key k j) (λ e. both_ways (same_key j k) n (subst (λ i. same_key i k ≡ true) (same_key_only k j e) (same_key_refl k)))
 
 -- each entry is the one that is found for its key
-found_each : {D : Type 0} (ks : List Key) (a : List (Solved D)) → Distinct ks → AllZip IsOwn ks a → AllZip (λ k s. find (is_of_key k.0 k.1) a ≡ Some s) ks a
+pub found_each : {D : Type 0} (ks : List Key) (a : List (Solved D)) → Distinct ks → AllZip IsOwn ks a → AllZip (λ k s. find (is_of_key k.0 k.1) a ≡ Some s) ks a
 found_each [] [] d h = tt
 found_each [] (s ∷ a) d h = absurd h
 found_each (k ∷ ks) [] d h = absurd h

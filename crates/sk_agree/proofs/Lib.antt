@@ -12,3 +12,4 @@ pub mod BonesSolved
 pub mod WalkSolves
 pub mod Least
 pub mod SpotsBelow
+pub mod LeastExists

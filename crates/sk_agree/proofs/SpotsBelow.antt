@@ -101,7 +101,7 @@ module _ (D : Type 0) (d : Domain D) (tuples : TupleLaws d) (filters : FiltersAr
   leq_of n count (Some flows) h = subst (λ o. outcome_leq d (Some flows) o ≡ true) (sym h.is) h.leq
 
   -- an environment that lies below the places, from a position that has something
-  abbrev Lives : PlaceEnv → ℕ → AbsEnv D → Type 0
+  abbrev pub Lives : PlaceEnv → ℕ → AbsEnv D → Type 0
   Lives other from env = Lower env other × Filled from
 
   lives_gains : (o : Option (AbsEnv D)) (other : PlaceEnv) (from n : ℕ) (vars : List Var) (r : Outcome D) → IfThere (Lives other from) o → IfThere (IsBelow n (length vars)) r → IfThere (Lives (gain other vars (places n vars)) n) (gains o vars r)

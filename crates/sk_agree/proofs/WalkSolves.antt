@@ -86,7 +86,7 @@ module _ (D : Type 0) (d : Domain D) (tuples : TupleLaws d) (shapes : ShapeLaws 
   answers = by_key (own_answer V)
 
   -- what a key is given: its inputs, the outcomes of its walk, and its outputs
-  abbrev entry_from : Key → Outcome D → Option (TermNode × Rule) → Solved D
+  abbrev pub entry_from : Key → Outcome D → Option (TermNode × Rule) → Solved D
   entry_from k i r = record {
     hook = k.0;
     point = k.1;
@@ -248,7 +248,7 @@ module _ (D : Type 0) (d : Domain D) (tuples : TupleLaws d) (shapes : ShapeLaws 
     hook_is : hook_of_key s k ≡ Some key.hook
     hook_is = hook_there s k key.is_key.node key.hook key.is_key.at key.is_key.declared key.is_key.takes
 
-    inputs_fit : (i : Outcome D) → V k Inputs ≡ i → outcome_fits d program.names key.hook.inputs i ≡ true
+    pub inputs_fit : (i : Outcome D) → V k Inputs ≡ i → outcome_fits d program.names key.hook.inputs i ≡ true
     inputs_fit i e = fits_hook k Inputs key.hook i hook_is (subst (FitSide w k Inputs) e (fits k Inputs))
 
     children : ChildrenFit def program.nodes program.names node.children key.con.args
@@ -269,9 +269,9 @@ module _ (D : Type 0) (d : Domain D) (tuples : TupleLaws d) (shapes : ShapeLaws 
     gone_at_start (Some ins) e = absurd cc
 
     -- the entry is of the key and satisfies its lines
-    record EntrySolved (sv : Solved D) : Type 0 where
-      is_of : IsOfKey d program.names (key_by_rule def k.0 k.1 node rule key.hook key.con) sv
-      lines : list_all (line_holds d program.names b sv) (lines_of_rule k.1 rule node) ≡ true
+    pub record EntrySolved (sv : Solved D) : Type 0 where
+      pub is_of : IsOfKey d program.names (key_by_rule def k.0 k.1 node rule key.hook key.con) sv
+      pub lines : list_all (line_holds d program.names b sv) (lines_of_rule k.1 rule node) ≡ true
 
     given_solved : (i : Outcome D) → V k Inputs ≡ i → EntrySolved (given i)
     given_solved i e =
@@ -291,7 +291,7 @@ module _ (D : Type 0) (d : Domain D) (tuples : TupleLaws d) (shapes : ShapeLaws 
           lines = list_all_both (line_holds d program.names b sv) (lines_of k.1 size 1 0 (first_env rule node) rule.bones) (line_at last (Part.End (operands_at final rule.outputs)) ∷ []) bones.lines (and_from (line_holds d program.names b sv (line_at last (Part.End (operands_at final rule.outputs)))) true line refl);
         }
 
-    entry_solved : EntrySolved (entry k)
+    pub entry_solved : EntrySolved (entry k)
     entry_solved = subst (λ r. EntrySolved (entry_from k (V k Inputs) r)) (sym (rule_found_at s k.0 k.1 rule key.hook key.con key.parts)) (given_solved (V k Inputs) refl)
 
   -- The assignment satisfies the constraints.

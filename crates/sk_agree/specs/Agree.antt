@@ -56,6 +56,17 @@ LeastSolutionsAreLeast {D} d finite =
     CoversFit d (setting_of def program) covers → (list : Constraints D) → AreConstraints def program covers list → (a : List (Solved D)) → IsLeastSolution d list a →
     IsLeastAccepted (walks_of d finite marks (setting_of def program) covers) (sides_of a)
 
+-- a least assignment that satisfies the constraints
+pub record HasLeastSolution {D : Type 0} (d : Domain D) (list : Constraints D) : Type 0 where
+  pub assignment : List (Solved D)
+  pub least : IsLeastSolution d list assignment
+
+-- the law of solvability: on a finite domain a program's constraints have a least solution
+abbrev pub LeastSolutionsExist : {D : Type 0} → Domain D → Bool → Type 0
+LeastSolutionsExist {D} d finite =
+    finite ≡ true → (def : Def) (program : Program) (covers : List (Cover D)) (marks : List ℤ) → IsWellSorted def → IsProgramOf def program → IsThresholds marks →
+    CoversFit d (setting_of def program) covers → (list : Constraints D) → AreConstraints def program covers list → HasLeastSolution d list
+
 -- the law of agreement: on a finite domain the table of the least solution of a program's constraints is the analyser's
 abbrev pub SolutionsAgree : {D : Type 0} → Domain D → Bool → Type 0
 SolutionsAgree {D} d finite =

@@ -1,5 +1,5 @@
 //! What the solutions of constraints are to the analyser's rounds.
-ghost use Rattle.sk_agree.specs.Agree.{SolutionsAreAbove, AcceptedAreSolutions, LeastSolutionsAreLeast, SolutionsAgree};
+ghost use Rattle.sk_agree.specs.Agree.{SolutionsAreAbove, AcceptedAreSolutions, LeastSolutionsAreLeast, LeastSolutionsExist, SolutionsAgree};
 
 use sk_absfilter::{filters_are_monotone, filters_keep_sorts};
 use sk_abswalk::{walks_are_proper, walks_fit};
@@ -27,6 +27,17 @@ pub fn accepted_are_solutions<D: NumDom>()
 /// Over every domain the table of the least solution of a program's constraints is the least accepted one.
 pub fn least_solutions_are_least<D: NumDom>()
     ensures { LeastSolutionsAreLeast D.domain D.FINITE }
+{
+    filters_are_monotone::<D>();
+    filters_keep_sorts::<D>();
+    walks_fit::<D>();
+    walks_are_proper::<D>();
+    readings_are_walks::<D>();
+}
+
+/// On a finite domain a program's constraints have a least solution.
+pub fn least_solutions_exist<D: NumDom>()
+    ensures { LeastSolutionsExist D.domain D.FINITE }
 {
     filters_are_monotone::<D>();
     filters_keep_sorts::<D>();

@@ -4,5 +4,6 @@
 mod laws;
 
 pub use laws::{
-    accepted_are_solutions, least_solutions_are_least, solutions_agree, solutions_are_above,
+    accepted_are_solutions, least_solutions_are_least, least_solutions_exist, solutions_agree,
+    solutions_are_above,
 };
