@@ -18,6 +18,7 @@ use Rattle.sk_lattice.specs.Texts.{entries}
 use Rattle.sk_lattice.specs.declared.cell.AbsCell.{AbsCell}
 use Rattle.sk_lattice.specs.declared.store.AbsStore.TheVariants.{Empty, Cells}
 use Rattle.sk_table.specs.Tuples.{all_cells, is_listed, widened}
+use Rattle.sk_table.proofs.TupleShapes.{all_cells_long}
 
 -- The place of a name after others.
 
@@ -98,10 +99,6 @@ module _ {D : Type 0} (d : Domain D) where
   all_of_both [] ys = refl
   all_of_both (x ∷ xs) ys = ap (λ cells. unwrap_or x (unset_cell d) ∷ cells) (all_of_both xs ys)
 
-  all_long : (cells : List (Option (AbsCell D))) → length (all_cells d cells) ≡ length cells
-  all_long [] = refl
-  all_long (cell ∷ cells) = ap suc (all_long cells)
-
   pub front_begins : IsFront d [] []
   front_begins = record { short = omega arith; are = refl }
 
@@ -113,7 +110,7 @@ module _ {D : Type 0} (d : Domain D) where
       record {
         short = omega (arith, f.short, longer);
         are = ap (λ n. padded_cells d n all) longer
-            ∙ ap (λ cells. all ++ cells) (one_more (length front) (length all) (unset_cell d) (omega (arith, f.short, all_long cells)))
+            ∙ ap (λ cells. all ++ cells) (one_more (length front) (length all) (unset_cell d) (omega (arith, f.short, all_cells_long d cells)))
             ∙ sym (append_assoc all (replicate (length front - length all) (unset_cell d)) (unset_cell d ∷ []))
             ∙ ap (λ cells. cells ++ unset_cell d ∷ []) f.are ∙ ap (λ c. front ++ c ∷ []) (sym e);
       }
@@ -132,7 +129,7 @@ module _ {D : Type 0} (d : Domain D) where
       let n = length front in
       let gap = replicate {A = Option (AbsCell D)} (n - length cells) None in
       let set_is = placed cells n cell f.short in
-      let gap_is : all_cells d gap ≡ replicate (n - length (all_cells d cells)) (unset_cell d) = unset_all (n - length cells) ∙ ap (λ k. replicate (n - k) (unset_cell d)) (sym (all_long cells)) in
+      let gap_is : all_cells d gap ≡ replicate (n - length (all_cells d cells)) (unset_cell d) = unset_all (n - length cells) ∙ ap (λ k. replicate (n - k) (unset_cell d)) (sym (all_cells_long d cells)) in
       let all_is : all_cells d ((cells ++ gap) ++ Some cell ∷ []) ≡ front ++ cell ∷ [] =
       all_of_both (cells ++ gap) (Some cell ∷ []) ∙ ap (λ all. all ++ cell ∷ []) (all_of_both cells gap ∙ ap (λ more. all_cells d cells ++ more) gap_is ∙ f.are) in
       let whole : padded_cells d (length (front ++ cell ∷ [])) (front ++ cell ∷ []) ≡ front ++ cell ∷ [] =

@@ -37,6 +37,7 @@ use Rattle.sk_table.specs.Written.{closes}
 use Rattle.sk_table.proofs.Spelled.{mark_symbols}
 use Rattle.sk_table.proofs.Said.{more, inside, val_symbols, entry_symbols, flow_symbols, tuple_symbols}
 use Rattle.sk_table.proofs.Listing.{place_after, Listed, none_left, left_out, listed, are_listed, is_off, IsFront, front_begins, front_unset, front_set, not_listed, store_is}
+use Rattle.sk_table.proofs.TupleShapes.{head_of}
 use Rattle.sk_table.proofs.Turns.{Gets, turn, long_turn, left_is}
 
 -- the first symbol, and the others
@@ -53,10 +54,6 @@ words_are true true = refl
 
 truths_are : (set : AbsBool) → truths_of (Named (bool_text set)) ≡ Some set
 truths_are set = words_are set.has_true set.has_false
-
-abbrev head_of : List FlowSort → Option FlowSort
-head_of [] = None
-head_of (s ∷ sorts) = Some s
 
 next_after : (done rest : List FlowSort) → slice_get (done ++ rest) (length done) ≡ head_of rest
 next_after [] [] = refl
