@@ -17,3 +17,6 @@ pub use print::print_table;
 pub use table::read_table;
 pub use triple::{Cover, Covers, Table, Triple};
 pub use tuple::{read_abs_tuple, read_known_abs_tuple, take_abs_tuple};
+
+#[cfg(test)]
+mod tests;
