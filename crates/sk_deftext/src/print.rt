@@ -382,7 +382,7 @@ pub fn print_def(alloc: Global, def: &Def) -> Result<Vec<u8>, NoMemory>
     // Where a text can say the definition, reading this one gives the definition again.
     ensures says { HasText def.now → IfOk result (λ text. Says text.items def.now) }
 
-    // So does each definition that was read, from whichever text.
+    // And so it is for each definition that some text says, as for each that was read.
     ensures again { (from : List ℕ) → Says from def.now → IfOk result (λ text. Says text.items def.now) }
 {
     let mut out = Vec::new(alloc);
