@@ -2,7 +2,7 @@
 use Rattle.std.specs.Prelude.{◌≡◌, ℕ, ◌+◌, ◌<◌, ◌≤◌, ◌==◌, nat_lt, Bool, true, false, ◌||◌, List, [], ◌∷◌, ◌++◌, length, codes, Result, Ok, Err, MatchResult}
 use Rattle.std.specs.List.{list_any, list_all}
 use Rattle.std.specs.Str.{bytes_eq}
-use Rattle.sk_lex.specs.Symbols.{Symbol, Plain}
+use Rattle.sk_lex.specs.Symbols.{Symbol, Plain, is_close}
 use Rattle.sk_lex.specs.Spelling.{Spells}
 use Rattle.sk_lex.specs.declared.token.TokenKind.TheVariants.{Comma, RightParen, Slash, Colon}
 use Rattle.sk_lattice.specs.Domain.{Domain}
@@ -41,12 +41,18 @@ abbrev pub EndsSymbols : List Symbol → Type 0
 EndsSymbols [] = Unit {0}
 EndsSymbols (symbol ∷ symbols) = is_mark symbol ≡ true
 
--- A printed text is ASCII, spells its symbols where it ends or such a mark follows, and is read back there. What is
--- taken is one symbol at least.
+-- whether a `)` comes first
+abbrev pub closes : List Symbol → Bool
+closes [] = false
+closes (symbol ∷ symbols) = is_close symbol
+
+-- A printed text is ASCII, spells its symbols where it ends or such a mark follows, and is read back there. It doesn't
+-- begin with the mark that ends a tuple. What is taken is one symbol at least.
 pub record TextLaws {E : Type 0} (d : Domain E) (t : DomainTexts E) : Type 0 where
   pub word_is : is_domain_word t.word ≡ true
   pub empty_text : t.text d.empty ≡ codes "none"
   pub ascii : (a : E) → list_all (λ c. nat_lt c 128) (t.text a) ≡ true
   pub spells : (a : E) → Spells EndsElement (t.text a) (t.symbols a)
+  pub begins : (a : E) → closes (t.symbols a) ≡ false
   pub reads : (a : E) (rest : List Symbol) → EndsSymbols rest → t.taken (t.symbols a ++ rest) ≡ Ok (a, length (t.symbols a))
   pub within : (symbols : List Symbol) → MatchResult (t.taken symbols) (λ p. (0 < p.1) × (p.1 ≤ length symbols)) (λ count. count ≤ length symbols)

@@ -110,7 +110,7 @@ hook_is_found def id hook h e =
     ap (λ found. option_map (λ place. record { 0 = place }) found)
     (hook_place def.hooks (hook_name def id) ∙ ap (place_of_name names) (name_is def id hook e) ∙ h.found id.0 (hook_within def id hook e))
 
-module _ {D : Type 0} (d : Domain D) (t : DomainTexts D) (laws : TextLaws d t) (only : (a : D) → d.is_empty a ≡ true → a ≡ d.empty) (def : Def) (program : Program) (names : List (List ℕ)) (table : List (Triple D)) (h : HasText d t def program names table) where
+module _ {D : Type 0} (d : Domain D) (t : DomainTexts D) (laws : TextLaws d t) (only : (a : D) → d.is_empty a ≡ true → a ≡ d.empty) (def : Def) (program : Program) (names : List (List ℕ)) (table : List (Triple D)) (h : HasText d def program names table) where
   -- what was read so far
   abbrev there : List (Triple D) → HookId → ℕ → List (AbsFlow D) → TableReading D
   there triples hook number tuple = record { def = def; program = program; names = names; triples = triples; hook = hook; point = number; ins = tuple }
@@ -132,7 +132,7 @@ module _ {D : Type 0} (d : Domain D) (t : DomainTexts D) (laws : TextLaws d t) (
     outs_get triples id number tuple (Some found) hook {left = left} e sorted proper g =
         let s = there triples id number tuple in
         long_turn (inside RightParen (flow_symbols t d names) found) g (with_triple s (Some found)) []
-        (outs_step d t s hook found g.at (length (inside RightParen (flow_symbols t d names) found)) _ e (tuple_returns d t laws only h.begins names h.words.different hook.outputs found g.at left sorted proper))
+        (outs_step d t s hook found g.at (length (inside RightParen (flow_symbols t d names) found)) _ e (tuple_returns d t laws only laws.begins names h.words.different hook.outputs found g.at left sorted proper))
 
     triple_get : (triples : List (Triple D)) (id : HookId) (number : ℕ) (triple : Triple D) {left : List Symbol} → length triples < 32768 → TripleFits def program (length names) triple → IsProper d triple →
         Comes (HookWord ∷ []) (there triples id number []) (triple_symbols t d names def triple ++ left) → Comes (HookWord ∷ []) (there (triples ++ triple ∷ []) triple.hook triple.point []) left
@@ -147,7 +147,7 @@ module _ {D : Type 0} (d : Domain D) (t : DomainTexts D) (laws : TextLaws d t) (
         let grouped = left_is placed (append_assoc (tuple_symbols t d names triple.ins) (Plain Points ∷ outs_symbols t d names triple.outs) left) in
         let taken = long_turn (inside RightParen (flow_symbols t d names) triple.ins) grouped filled []
         (ins_step d t pointed_state fits.hook triple.ins grouped.at (length (inside RightParen (flow_symbols t d names) triple.ins)) (Plain LeftParen) _ fits.hook_is
-        (tuple_returns d t laws only h.begins names h.words.different fits.hook.inputs triple.ins grouped.at after fits.ins_fit proper.ins)) in
+        (tuple_returns d t laws only laws.begins names h.words.different fits.hook.inputs triple.ins grouped.at after fits.ins_fit proper.ins)) in
         let arrowed = turn taken filled [] (arrow_step d t filled taken.at _) in
         outs_get triples triple.hook triple.point triple.ins triple.outs fits.hook fits.hook_is fits.outs_fit proper.outs arrowed
 

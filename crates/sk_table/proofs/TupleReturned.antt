@@ -13,7 +13,7 @@ use Rattle.sk_lex.specs.Run.{Rules, run}
 use Rattle.sk_lex.specs.Symbols.{Symbol, Named, Plain, is_close}
 use Rattle.sk_lex.specs.declared.token.TokenKind.TheVariants.{LeftParen, RightParen, LeftBrace, RightBrace, Comma, Equals as Assigns, Slash as Parts, Question}
 use Rattle.sk_lattice.specs.Domain.{Domain}
-use Rattle.sk_lattice.specs.DomainTexts.{DomainTexts, TextLaws, EndsSymbols}
+use Rattle.sk_lattice.specs.DomainTexts.{DomainTexts, TextLaws, EndsSymbols, closes}
 use Rattle.sk_lattice.specs.Empty.{val_is_empty, cell_is_empty, flow_is_empty, flow_is_proper, is_proper}
 use Rattle.sk_lattice.specs.Padding.{padded_flow, padded_cells}
 use Rattle.sk_lattice.specs.Shapes.{flow_has_sort, has_sorts}
@@ -33,7 +33,6 @@ use Rattle.sk_table.specs.declared.fault.TableError.TheVariants as error
 use Rattle.sk_table.specs.Tables.{tuple_at}
 use Rattle.sk_table.specs.Tuples as spec
 use Rattle.sk_table.specs.Tuples.{Reading, Met, met, refused, more_taken, element_at, with_element, with_flow, with_num, truths_named, truths_of, begun, value, closing, item, after, val_truth, cell_truth, all_cells, ended, is_listed, widened, with_cell, found_name, named, first_name, after_name, mark, step, tuple_rules, nothing, ReadTuple, whole, read_tuple}
-use Rattle.sk_table.specs.Written.{closes}
 use Rattle.sk_table.proofs.Spelled.{mark_symbols}
 use Rattle.sk_table.proofs.Said.{more, inside, val_symbols, entry_symbols, flow_symbols, tuple_symbols}
 use Rattle.sk_table.proofs.Listing.{place_after, Listed, none_left, left_out, listed, are_listed, is_off, IsFront, front_begins, front_unset, front_set, not_listed, store_is}

@@ -77,7 +77,7 @@ pub fn print_table<D: NumDom>(
     ensures text { IfOk result (λ text. text.items ≡ table_text D.domain D.texts def.now names.now table.now) }
 
     // Where a text can say the table over a program, reading this one gives the table again.
-    ensures read_back { (program : Program) → HasText D.domain D.texts def.now program names.now table.now →
+    ensures read_back { (program : Program) → HasText D.domain def.now program names.now table.now →
         IfOk result (λ text. read_table D.domain D.texts def.now program names.now text.items ≡ Ok table.now) }
 {
     let mut out = Vec::new(alloc);

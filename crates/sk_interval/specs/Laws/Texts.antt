@@ -23,7 +23,7 @@ use Rattle.sk_lex.specs.declared.token.TokenKind.TheVariants as kind
 use Rattle.sk_lex.proofs.Spellings.{piece_then, spells_both, number_spells}
 use Rattle.sk_lex.proofs.Words.{plain_word_spells}
 use Rattle.sk_lattice.proofs.Endings.{word_ends}
-use Rattle.sk_lattice.specs.DomainTexts.{TextLaws, EndsElement, EndsSymbols}
+use Rattle.sk_lattice.specs.DomainTexts.{TextLaws, EndsElement, EndsSymbols, closes}
 use Rattle.sk_lattice.specs.Thresholds.{LEAST, GREATEST}
 use Rattle.sk_value.specs.Numbers.{IsNumber}
 use Rattle.sk_interval.specs.declared.bounds.Bounds.{Bounds}
@@ -221,12 +221,17 @@ within (Named word ∷ symbols) = word_within (bytes_eq word (codes "none"))
     word_within true = (omega arith, omega arith)
     word_within false = bounds_within (Named word ∷ symbols)
 
+begins : (a : Interval) → closes (interval_symbols a) ≡ false
+begins Empty = refl
+begins (Range a) = refl
+
 pub interval_text_laws : TextLaws interval_domain interval_texts
 interval_text_laws = record {
   word_is = refl;
   empty_text = refl;
   ascii = ascii;
   spells = spells;
+  begins = begins;
   reads = reads;
   within = within;
 }

@@ -53,6 +53,7 @@ sign_text_laws = record {
   empty_text = refl;
   ascii = λ a. ascii a.negative a.zero a.positive;
   spells = λ a rest ok. plain_word_spells (word_of a.negative a.zero a.positive) (plain a.negative a.zero a.positive) rest (word_ends rest ok);
+  begins = λ a. refl;
   reads = λ a rest ok. ap taken_word (named a.negative a.zero a.positive);
   within = within;
 }
