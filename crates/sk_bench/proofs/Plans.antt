@@ -1,10 +1,9 @@
 -- What holds of every plan.
-use Rattle.std.proofs.Common.{◌≡◌, ℕ, ◌<◌, Bool, IsTrue, IsFalse, List, length, Option, None, Some, IfSome, ap, sym, ◌∙◌, subst, inl, inr, arith}
+use Rattle.std.proofs.Common.{◌≡◌, ℕ, ◌<◌, Bool, IsTrue, IsFalse, List, length, Option, None, Some, IfSome, sym, ◌∙◌, subst, inl, inr, arith}
 use Rattle.sk_base.specs.Files.{Folder}
 use Rattle.sk_bench.specs.declared.status.Ending.{Ending}
-use Rattle.sk_deriv.proofs.Unique.{results_are_one}
-use Rattle.sk_bench.specs.Outcomes.{Question, IsResultsText, setting_in, outcomes_text}
-use Rattle.sk_bench.specs.Plan.{Plan, Write, Read, WriteResults, Ended, Ends, Reaches, Agrees, IsTold, IsSteady, IsShaky, GaveTooMuch, IsTooLong, IsSteadyTooLong}
+use Rattle.sk_bench.proofs.Answered.{one_answer}
+use Rattle.sk_bench.specs.Plan.{Plan, Write, Read, WriteAnswer, Ended, Ends, Reaches, Agrees, IsTold, IsSteady, IsShaky, GaveTooMuch, IsTooLong, IsSteadyTooLong}
 
 -- what agrees with told bytes is those bytes
 agrees_told : (told : Option (List ℕ)) (bytes others : List ℕ) → IfSome told (λ xs. bytes ≡ xs) → told ≡ Some others → bytes ≡ others
@@ -18,23 +17,18 @@ at_told (Some xs) bytes limit h is = let same : xs ≡ bytes = cc in subst (λ l
 never_both : (b : Bool) → IsTrue b → IsFalse b → ⊥
 never_both b p q = cc
 
--- a call has one text of its results
-one_text : (q : Question) (text said : List ℕ) → IsResultsText q text → IsResultsText q said → text ≡ said
-one_text q text said (xs, is, spells) (ys, are, told) =
-    spells ∙ ap (outcomes_text q.def q.names) (results_are_one (setting_in q) q.call q.depth xs ys is are) ∙ sym told
-
 module _ (folder : Folder) where
   -- a steady ending is told
   pub ends_steady : (plan : Plan) (ending : Ending) (text : List ℕ) → Ends (IsSteady folder) plan ending text → Ends (IsTold folder) plan ending text
   ends_steady (Write as_said said) ending text h = h
   ends_steady (Read name limit next) ending text (bytes, told, short, rest) = (bytes, told.1, short, ends_steady (next bytes) ending text rest)
-  ends_steady (WriteResults q) ending text h = h
+  ends_steady (WriteAnswer asked) ending text h = h
 
   pub reaches_steady : (plan : Plan) → Reaches (IsSteady folder) (IsSteadyTooLong folder) plan → Reaches (IsTold folder) (IsTooLong folder) plan
   reaches_steady (Write as_said said) h = absurd h
   reaches_steady (Read name limit next) (inl long) = inl long.1
   reaches_steady (Read name limit next) (inr (bytes, told, short, rest)) = inr (bytes, told.1, short, reaches_steady (next bytes) rest)
-  reaches_steady (WriteResults q) h = absurd h
+  reaches_steady (WriteAnswer asked) h = absurd h
 
   -- where the files tell how the plan ends, it ended in no other way
   pub ends_told : (given gave : ℕ) (plan : Plan) (ending said_ending : Ending) (text said : List ℕ) → Ended folder given gave plan ending text
@@ -43,7 +37,7 @@ module _ (folder : Folder) where
   ends_told given gave (Read name limit next) ending said_ending text said (bytes, agrees, short, rest) (others, told, few, end) =
       let same : bytes ≡ others = agrees_told (folder.told name) bytes others agrees told in
       ends_told given (length others) (next others) ending said_ending text said (subst (λ l. Ended folder given (length l) (next l) ending text) same rest) end
-  ends_told given gave (WriteResults q) ending said_ending text said (end, is, same) (told, is_told) = (end ∙ sym told, one_text q text said is is_told)
+  ends_told given gave (WriteAnswer asked) ending said_ending text said (is, means, same) told = one_answer asked ending said_ending text said is told
 
   -- where they tell that it ends, no file gives too much
   pub ends_short : (given : ℕ) (plan : Plan) (ending : Ending) (text : List ℕ) → Ends (IsTold folder) plan ending text → Reaches (Agrees folder) (GaveTooMuch folder given) plan → ⊥
@@ -53,7 +47,7 @@ module _ (folder : Folder) where
   ends_short given (Read name limit next) ending text (bytes, told, short, rest) (inr (others, agrees, few, reaches)) =
       let same : others ≡ bytes = agrees_told (folder.told name) others bytes agrees told in
       ends_short given (next bytes) ending text rest (subst (λ l. Reaches (Agrees folder) (GaveTooMuch folder given) (next l)) same reaches)
-  ends_short given (WriteResults q) ending text h reaches = reaches
+  ends_short given (WriteAnswer asked) ending text h reaches = reaches
 
   -- where they tell that a file is too long, the plan didn't end
   pub too_long_ends : (given gave : ℕ) (plan : Plan) (ending : Ending) (text : List ℕ) → Reaches (IsTold folder) (IsTooLong folder) plan
@@ -65,7 +59,7 @@ module _ (folder : Folder) where
   too_long_ends given gave (Read name limit next) ending text (inr (others, told, few, reaches)) (bytes, agrees, short, rest) =
       let same : bytes ≡ others = agrees_told (folder.told name) bytes others agrees told in
       too_long_ends given (length others) (next others) ending text reaches (subst (λ l. Ended folder given (length l) (next l) ending text) same rest)
-  too_long_ends given gave (WriteResults q) ending text h ends = h
+  too_long_ends given gave (WriteAnswer asked) ending text h ends = h
 
   -- where steady files tell how the plan ends, no other file has its turn
   pub ends_unshaken : (plan : Plan) (ending : Ending) (text : List ℕ) → Ends (IsSteady folder) plan ending text → Reaches (Agrees folder) (IsShaky folder) plan → ⊥
@@ -74,7 +68,7 @@ module _ (folder : Folder) where
   ends_unshaken (Read name limit next) ending text (bytes, told, short, rest) (inr (others, agrees, few, reaches)) =
       let same : others ≡ bytes = agrees_told (folder.told name) others bytes agrees told.1 in
       ends_unshaken (next bytes) ending text rest (subst (λ l. Reaches (Agrees folder) (IsShaky folder) (next l)) same reaches)
-  ends_unshaken (WriteResults q) ending text h reaches = reaches
+  ends_unshaken (WriteAnswer asked) ending text h reaches = reaches
 
   pub too_long_unshaken : (plan : Plan) → Reaches (IsSteady folder) (IsSteadyTooLong folder) plan → Reaches (Agrees folder) (IsShaky folder) plan → ⊥
   too_long_unshaken (Write as_said said) h reaches = reaches
@@ -86,4 +80,4 @@ module _ (folder : Folder) where
   too_long_unshaken (Read name limit next) (inr (bytes, told, short, rest)) (inr (others, agrees, few, reaches)) =
       let same : others ≡ bytes = agrees_told (folder.told name) others bytes agrees told.1 in
       too_long_unshaken (next bytes) rest (subst (λ l. Reaches (Agrees folder) (IsShaky folder) (next l)) same reaches)
-  too_long_unshaken (WriteResults q) h reaches = reaches
+  too_long_unshaken (WriteAnswer asked) h reaches = reaches

@@ -1,5 +1,6 @@
 -- The texts that are accepted: definitions that are read and are well sorted, and jobs that are read.
-use Rattle.std.specs.Prelude.{◌≡◌, IsSome, ℕ, List, codes, Option, Some, None, Result, Ok, Err, slice_get, unwrap_or}
+use Rattle.std.specs.List.{filter_map}
+use Rattle.std.specs.Prelude.{◌≡◌, IsSome, ℕ, List, length, codes, Option, Some, None, Result, Ok, Err, slice_get, unwrap_or}
 use Rattle.sk_base.specs.Answer.{◌>>=◌}
 use Rattle.sk_base.specs.declared.place.Place.{Place}
 use Rattle.sk_def.specs.declared.def.Def.{Def}
@@ -13,7 +14,14 @@ use Rattle.sk_sort.specs.Definition.{first_fault}
 use Rattle.sk_sort.specs.declared.error.SortFault.{SortFault}
 use Rattle.sk_sort.specs.declared.error.SortFault.TheVariants as sorts
 use Rattle.sk_bench.specs.declared.job.JobError.{JobError}
-use Rattle.sk_bench.specs.Codes.{job_code, lex_code, sort_code}
+use Rattle.sk_lattice.specs.Domain.{Domain}
+use Rattle.sk_lattice.specs.DomainTexts.{DomainTexts}
+use Rattle.sk_term.specs.Program.{Program}
+use Rattle.sk_term.specs.Terms.{sort_of_node}
+use Rattle.sk_table.specs.Tables.{read_table}
+use Rattle.sk_table.specs.declared.fault.TableError.{TableError}
+use Rattle.sk_table.specs.declared.triple.Triple.{Triple}
+use Rattle.sk_bench.specs.Codes.{job_code, lex_code, sort_code, table_code}
 use Rattle.sk_bench.specs.Jobs.{ReadJob}
 use Rattle.sk_bench.specs.JobText.{read_job}
 use Rattle.sk_bench.specs.Refused.{Refused}
@@ -70,3 +78,15 @@ when_job (Err (error, place)) = Err (refused_at (job_code error) place)
 -- the job that a text is, over a definition
 abbrev pub accepted_job : Def → List ℕ → Result ReadJob Refused
 accepted_job d text = when_job (read_job d text)
+
+-- the program of a job
+abbrev pub program_of : Def → ReadJob → Program
+program_of d job = record { nodes = job.nodes; sorts = filter_map (sort_of_node d) job.nodes; names = length job.names }
+
+abbrev pub when_table : {A : Type 0} → Result A (TableError × Place) → Result A Refused
+when_table (Ok table) = Ok table
+when_table (Err (error, place)) = Err (refused_at (table_code error) place)
+
+-- the table of a domain that a text is, over a definition, a program and its names
+abbrev pub accepted_table : {D : Type 0} → Domain D → DomainTexts D → Def → Program → List (List ℕ) → List ℕ → Result (List (Triple D)) Refused
+accepted_table domain texts d program names text = when_table (read_table domain texts d program names text)

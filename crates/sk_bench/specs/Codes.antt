@@ -6,6 +6,8 @@ use Rattle.sk_sort.specs.declared.error.SortError.{SortError}
 use Rattle.sk_sort.specs.declared.error.SortError.TheVariants as sort
 use Rattle.sk_bench.specs.declared.job.JobError.{JobError}
 use Rattle.sk_bench.specs.declared.job.JobError.TheVariants as job
+use Rattle.sk_table.specs.declared.fault.TableError.{TableError}
+use Rattle.sk_table.specs.declared.fault.TableError.TheVariants as table
 
 abbrev pub lex_code : LexError → List ℕ
 lex_code lex.BadUtf8 = codes "BadUtf8"
@@ -33,4 +35,16 @@ job_code job.UnknownHook = codes "UnknownHook"
 job_code job.WrongPoint = codes "WrongPoint"
 job_code job.Duplicate = codes "Duplicate"
 job_code job.Empty = codes "Empty"
-job_code job.Later = codes "Later"
+
+abbrev pub table_code : TableError → List ℕ
+table_code (table.Lex error) = lex_code error
+table_code table.Unexpected = codes "Unexpected"
+table_code table.WrongDomain = codes "WrongDomain"
+table_code table.UnknownHook = codes "UnknownHook"
+table_code table.WrongPoint = codes "WrongPoint"
+table_code table.WrongCount = codes "WrongCount"
+table_code table.UnknownName = codes "UnknownName"
+table_code table.TooManyNames = codes "TooManyNames"
+table_code table.Duplicate = codes "Duplicate"
+table_code table.Empty = codes "Empty"
+table_code table.TooMany = codes "TooMany"

@@ -2,16 +2,28 @@
 use Rattle.std.specs.Prelude.{ℕ, List, [], ◌++◌, Option, Some, None, Result, Ok, Err, length, codes, decimal, option_map, slice_get, unwrap_or}
 use Rattle.sk_base.specs.Place.{place_at}
 use Rattle.sk_def.specs.declared.def.Def.{Def}
-use Rattle.sk_bench.specs.declared.accept.TheConstants.{LIMIT}
+use Rattle.sk_lattice.specs.Domain.{Domain}
+use Rattle.sk_lattice.specs.DomainTexts.{DomainTexts}
+use Rattle.sk_table.specs.declared.triple.Triple.{Triple}
+use Rattle.sk_table.specs.declared.triple.Cover.{Cover}
+use Rattle.sk_bench.specs.declared.accept.TheConstants.{LIMIT, TABLE_LIMIT}
+use Rattle.sk_sign.specs.Signs.{sign_domain}
+use Rattle.sk_sign.specs.Texts.{sign_texts}
+use Rattle.sk_interval.specs.Intervals.{interval_domain}
+use Rattle.sk_interval.specs.Texts.{interval_texts}
+use Rattle.sk_bench.specs.Verdicts.{Trial}
 use Rattle.sk_bench.specs.declared.kinds.Command.{Command}
-use Rattle.sk_bench.specs.declared.kinds.Command.TheVariants.{Check, Run}
+use Rattle.sk_bench.specs.declared.kinds.Command.TheVariants.{Check, Run, Verify}
+use Rattle.sk_bench.specs.declared.kinds.DomainWord.{DomainWord}
+use Rattle.sk_bench.specs.declared.kinds.DomainWord.TheVariants.{Sign, Interval}
 use Rattle.sk_bench.specs.declared.status.Ending.{Ending}
-use Rattle.sk_bench.specs.declared.status.Ending.TheVariants.{Done, Definition, Job}
-use Rattle.sk_bench.specs.Accepted.{accepted_definition, accepted_job, refused_at}
+use Rattle.sk_bench.specs.declared.status.Ending.TheVariants.{Done, Definition, Job, Table}
+use Rattle.sk_bench.specs.Asked.{results, sign_verdict, interval_verdict}
+use Rattle.sk_bench.specs.Accepted.{accepted_definition, accepted_job, accepted_table, program_of, refused_at}
 use Rattle.sk_bench.specs.declared.job.Start.{Start}
 use Rattle.sk_bench.specs.Jobs.{ReadJob}
 use Rattle.sk_bench.specs.Outcomes.{Question}
-use Rattle.sk_bench.specs.Plan.{Plan, Write, Read, WriteResults}
+use Rattle.sk_bench.specs.Plan.{Plan, Write, Read, WriteAnswer}
 use Rattle.sk_bench.specs.Refused.{Refused, refused_line}
 use Rattle.sk_bench.specs.Words.{command_of}
 
@@ -56,16 +68,39 @@ question d depth job start = record {
 -- what `run` does with the text of its job
 abbrev pub run_job : Def → ℕ → List ℕ → Plan
 run_job d depth text =
-    on_accepted Job (codes "job") (λ job. on_start (λ start. WriteResults (question d depth job start)) text job.start) (accepted_job d text)
+    on_accepted Job (codes "job") (λ job. on_start (λ start. WriteAnswer (results (question d depth job start))) text job.start) (accepted_job d text)
 
 -- what `run` does with the text of its definition: it reads the job of this name
 abbrev pub run_on : List ℕ → ℕ → List ℕ → Plan
 run_on job depth text = on_definition (λ d. Read job LIMIT (run_job d depth)) text
 
+-- a table over a job, with the job's cover lines of its domain
+abbrev pub trial : {D : Type 0} → Def → ReadJob → List (Cover D) → List (Triple D) → Trial D
+trial d job covers table = record { def = d; job = job; covers = covers; table = table }
+
+-- goes on with the table of a domain that a text is, over a job
+abbrev pub on_table : {D : Type 0} → Domain D → DomainTexts D → Def → ReadJob → (List (Triple D) → Plan) → List ℕ → Plan
+on_table domain texts d job next text = on_accepted Table (codes "table") next (accepted_table domain texts d (program_of d job) job.names text)
+
+-- what `verify` does with the text of its table, over the domain of a word
+abbrev pub verify_table : DomainWord → Def → ReadJob → List ℕ → Plan
+verify_table Sign d job text = on_table sign_domain sign_texts d job (λ table. WriteAnswer (sign_verdict (trial d job job.sign table))) text
+verify_table Interval d job text = on_table interval_domain interval_texts d job (λ table. WriteAnswer (interval_verdict (trial d job job.interval table))) text
+
+-- what `verify` does with the text of its job: it reads the table of this name
+abbrev pub verify_job : List ℕ → DomainWord → Def → List ℕ → Plan
+verify_job table domain d text =
+    on_accepted Job (codes "job") (λ job. Read table TABLE_LIMIT (verify_table domain d job)) (accepted_job d text)
+
+-- what `verify` does with the text of its definition: it reads the job of this name
+abbrev pub verify_on : List ℕ → List ℕ → DomainWord → List ℕ → Plan
+verify_on job table domain text = on_definition (λ d. Read job LIMIT (verify_job table domain d)) text
+
 -- the plan of a command with these words
 unfoldable pub plan_of : List (List ℕ) → Command → Plan
 plan_of words Check = Read (word_at words 1) LIMIT check_on
 plan_of words (Run depth) = Read (word_at words 1) LIMIT (run_on (word_at words 2) depth)
+plan_of words (Verify domain) = Read (word_at words 1) LIMIT (verify_on (word_at words 2) (word_at words 4) domain)
 
 -- the plan that the words ask for, if they are a command
 abbrev pub planned : List (List ℕ) → Option Plan

@@ -5,9 +5,8 @@ use Rattle.sk_base.specs.Files.{Folder, Selection}
 use Rattle.sk_bench.specs.declared.status.Output.{Output}
 use Rattle.sk_bench.specs.declared.status.Stop.{Stop}
 use Rattle.sk_bench.specs.declared.status.Stop.TheVariants as stop
-use Rattle.sk_bench.specs.declared.status.Ending.TheVariants.{Done}
-use Rattle.sk_bench.specs.Outcomes.{IsResultsText}
-use Rattle.sk_bench.specs.Plan.{Plan, Write, Read, WriteResults, Ended, Reaches, Agrees, IsShaky, GaveTooMuch}
+use Rattle.sk_bench.specs.Asked.{IsAnswer, Means}
+use Rattle.sk_bench.specs.Plan.{Plan, Write, Read, WriteAnswer, Ended, Reaches, Agrees, IsShaky, GaveTooMuch}
 
 -- why a command may stop
 abbrev pub HasStopped : Folder → Selection → ℕ → ℕ → Plan → Stop → Type 0
@@ -24,5 +23,5 @@ Follows folder was now before after plan (Err stop) = HasStopped folder now befo
 abbrev pub Prepares : Plan → Result Output Stop → Type 0
 Prepares (Write ending text) (Ok output) = (output.ending ≡ ending) × (output.text.items ≡ text)
 Prepares (Read name limit next) (Ok output) = ⊥
-Prepares (WriteResults q) (Ok output) = (output.ending ≡ Done) × IsResultsText q output.text.items
+Prepares (WriteAnswer asked) (Ok output) = IsAnswer asked output.ending output.text.items × Means asked output.ending
 Prepares plan (Err reason) = reason ≡ stop.NoMemory

@@ -17,7 +17,7 @@ use Rattle.sk_bench.specs.declared.job.JobFault.TheVariants as fault
 
 -- what callers see of a job
 abbrev pub seen : Job → ReadJob
-seen job = record { nodes = job.arena.nodes; names = job.names; start = job.start }
+seen job = record { nodes = job.arena.nodes; names = job.names; start = job.start; sign = job.sign; interval = job.interval }
 
 -- the error and the place of a fault, none for want of memory
 abbrev pub bad_of : JobFault → Option (JobError × Place)

@@ -1,4 +1,5 @@
 pub mod Accepted
+pub mod Asked
 pub mod Codes
 pub mod Commands
 pub mod Following
@@ -6,8 +7,10 @@ pub mod Headline
 pub mod JobMeets
 pub mod JobText
 pub mod Jobs
+pub mod Judging
 pub mod Outcomes
 pub mod Plan
 pub mod Refused
 pub mod Status
+pub mod Verdicts
 pub mod Words

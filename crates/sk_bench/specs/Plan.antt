@@ -2,15 +2,14 @@
 use Rattle.std.specs.Prelude.{◌≡◌, ◌⊎◌, ℕ, ◌+◌, ◌<◌, ◌≤◌, IsTrue, IsFalse, IfSome, List, length, Some}
 use Rattle.sk_base.specs.Files.{Folder}
 use Rattle.sk_bench.specs.declared.status.Ending.{Ending}
-use Rattle.sk_bench.specs.declared.status.Ending.TheVariants as ended
-use Rattle.sk_bench.specs.Outcomes.{Question, IsResultsText}
+use Rattle.sk_bench.specs.Asked.{Asked, IsAnswer, Means}
 
--- the text that is written in the end, that of the results of a call, or the file whose turn it is, its limit, and what its
+-- the text that is written in the end, what such a text is to answer, or the file whose turn it is, its limit, and what its
 -- bytes lead to
 pub data Plan : Type 0 where
   Write : Ending → List ℕ → Plan
   Read : List ℕ → ℕ → (List ℕ → Plan) → Plan
-  WriteResults : Question → Plan
+  WriteAnswer : Asked → Plan
 
 -- these are the bytes of the file, as far as it tells them
 abbrev pub Agrees : Folder → List ℕ → List ℕ → Type 0
@@ -26,24 +25,24 @@ IsSteady folder name bytes = IsTrue (folder.steady name) × (folder.told name �
 
 -- the plan came to its end with this text: each file whose turn came had bytes within its limit, those that it tells where
 -- it tells them, and gave just so many; so the last one's number is what the selection now says, and `gave` is that of the
--- file before
+-- file before. Where the text answers what was asked, what it says is so
 abbrev pub Ended : Folder → ℕ → ℕ → Plan → Ending → List ℕ → Type 0
 Ended folder given gave (Write as_said said) ending text = (ending ≡ as_said) × (text ≡ said) × (given ≡ gave)
 Ended folder given gave (Read name limit next) ending text =
     (bytes : List ℕ) × Agrees folder name bytes × (length bytes ≤ limit) × Ended folder given (length bytes) (next bytes) ending text
-Ended folder given gave (WriteResults q) ending text = (ending ≡ ended.Done) × IsResultsText q text × (given ≡ gave)
+Ended folder given gave (WriteAnswer asked) ending text = IsAnswer asked ending text × Means asked ending × (given ≡ gave)
 
 -- the files say that the plan ends with this text: each whose turn comes has bytes of which P holds, within its limit
 abbrev pub Ends : (List ℕ → List ℕ → Type 0) → Plan → Ending → List ℕ → Type 0
 Ends P (Write as_said said) ending text = (ending ≡ as_said) × (text ≡ said)
 Ends P (Read name limit next) ending text = (bytes : List ℕ) × P name bytes × (length bytes ≤ limit) × Ends P (next bytes) ending text
-Ends P (WriteResults q) ending text = (ending ≡ ended.Done) × IsResultsText q text
+Ends P (WriteAnswer asked) ending text = IsAnswer asked ending text
 
 -- the turn comes of a file of which Q holds, after files with bytes of which P holds, within their limits
 abbrev pub Reaches : (List ℕ → List ℕ → Type 0) → (List ℕ → ℕ → Type 0) → Plan → Type 0
 Reaches P Q (Write ending text) = ⊥
 Reaches P Q (Read name limit next) = Q name limit ⊎ ((bytes : List ℕ) × P name bytes × (length bytes ≤ limit) × Reaches P Q (next bytes))
-Reaches P Q (WriteResults q) = ⊥
+Reaches P Q (WriteAnswer asked) = ⊥
 
 -- the file isn't steady
 abbrev pub IsShaky : Folder → List ℕ → ℕ → Type 0

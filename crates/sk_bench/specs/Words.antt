@@ -5,7 +5,9 @@ use Rattle.std.specs.List.{list_all}
 use Rattle.std.specs.Str.{bytes_eq}
 use Rattle.std.specs.Str.Parse.{digits_value}
 use Rattle.sk_bench.specs.declared.kinds.Command.{Command}
-use Rattle.sk_bench.specs.declared.kinds.Command.TheVariants.{Check, Run}
+use Rattle.sk_bench.specs.declared.kinds.Command.TheVariants.{Check, Run, Verify}
+use Rattle.sk_bench.specs.declared.kinds.DomainWord.{DomainWord}
+use Rattle.sk_bench.specs.declared.kinds.DomainWord.TheVariants.{Sign, Interval}
 
 -- the word has 1 to 10 digits, and nothing else
 abbrev pub is_number : List ℕ → Bool
@@ -15,8 +17,14 @@ is_number word = nat_le 1 (length word) && nat_le (length word) 10 && list_all i
 abbrev pub number_up_to : ℕ → List ℕ → Option ℕ
 number_up_to most word = if is_number word && nat_le (digits_value 10 word) most then Some (digits_value 10 word) else None
 
--- the command that the words are: `check DEF` or `run DEF JOB N`
+-- the domain of a word
+abbrev pub domain_of : List ℕ → Option DomainWord
+domain_of word =
+    if bytes_eq word (codes "sign") then Some Sign else (if bytes_eq word (codes "interval") then Some Interval else None)
+
+-- the command that the words are: `check DEF`, `run DEF JOB N` or `verify DEF JOB DOMAIN TABLE`
 abbrev pub command_of : List (List ℕ) → Option Command
 command_of (word ∷ _ ∷ []) = if bytes_eq word (codes "check") then Some Check else None
 command_of (word ∷ _ ∷ _ ∷ depth ∷ []) = if bytes_eq word (codes "run") then option_map Run (number_up_to 64 depth) else None
+command_of (word ∷ _ ∷ _ ∷ domain ∷ _ ∷ []) = if bytes_eq word (codes "verify") then option_map Verify (domain_of domain) else None
 command_of _ = None

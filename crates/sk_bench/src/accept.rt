@@ -1,5 +1,5 @@
 //! Texts as the commands take them: definitions that are read and well sorted, and jobs that are read.
-ghost use Rattle.std.specs.Prelude.{◌≡◌, ◌-◌, ◌^◌, ◌<◌, length, IfOk};
+ghost use Rattle.std.specs.Prelude.{◌≡◌, ◌-◌, ◌^◌, ◌<◌, length, All, IfOk};
 ghost use Rattle.std.specs.Option.{option_map};
 ghost use Rattle.sk_base.specs.Answer.{Gives};
 ghost use Rattle.sk_def.specs.Fits.{DefinitionFits};
@@ -7,21 +7,27 @@ ghost use Rattle.sk_deftext.specs.Faults.{refusal_of as read_fault};
 ghost use Rattle.sk_deftext.specs.Places.{PlacesFit};
 ghost use Rattle.sk_sort.specs.Definition.{first_fault};
 ghost use Rattle.sk_term.specs.Program.{IsProgramOf};
-ghost use Rattle.sk_bench.specs.Accepted.{accepted_definition, accepted_job, read_refusal, unless_fault, FaultIsPlaced};
+ghost use Rattle.sk_table.specs.Fits.{TripleFits};
+ghost use Rattle.sk_bench.specs.Accepted.{accepted_definition, accepted_job, accepted_table, program_of, read_refusal, unless_fault, FaultIsPlaced};
 ghost use Rattle.sk_bench.specs.JobText.{seen};
 ghost use Rattle.sk_bench.specs.Refused.{refusal_of, refused_of};
 
-use crate::codes::{job_code, lex_code, sort_code};
+use crate::codes::{job_code, lex_code, sort_code, table_code};
 use crate::refused::{Refusal, Unaccepted};
 use crate::{Job, JobFault, read_job};
 use sk_base::Place;
 use sk_def::Def;
 use sk_deftext::{DefFault, Source, read_def};
+use sk_lattice::NumDom;
 use sk_sort::{Checked, SortFault, check_sorts};
+use sk_table::{Table, TableFault, read_table};
 use std::alloc::Global;
 
 /// The greatest number of bytes of a definition or a job.
 pub(crate) const LIMIT: usize = 4_194_304;
+
+/// The greatest number of bytes of a table.
+pub(crate) const TABLE_LIMIT: usize = 16_777_216;
 
 /// Reads a definition and checks its sorts.
 #[tactic(auto, unfolding(crate::specs::Accepted::accepted_definition))]
@@ -96,4 +102,25 @@ pub fn faults_are_placed(source: &Source)
     ensures { DefinitionFits source.now.def → PlacesFit source.now → FaultIsPlaced source.now }
 {
     let _source = source;
+}
+
+/// Reads a table of a domain over a definition and a job.
+pub(crate) fn accept_table<D: NumDom>(
+    alloc: Global,
+    def: &Def,
+    job: &Job,
+    text: &[u8],
+) -> Result<Table<D>, Unaccepted>
+    requires fits { DefinitionFits def.now }
+    requires short { length text.now < 2 ^ 32 - 1 }
+    requires program { IsProgramOf def.now job.now.arena }
+    requires over { job.now.arena.names ≡ length job.now.names }
+    ensures gives { Gives (λ table. table) refusal_of result (accepted_table D.domain D.texts def.now (program_of def.now (seen job.now)) job.now.names text.now) }
+    ensures triples { IfOk result (All (TripleFits def.now job.now.arena (length job.now.names))) }
+{
+    match read_table(alloc, def, &job.arena, &job.names, text) {
+        Ok(table) => Ok(table),
+        Err(TableFault::Bad(error, place)) => Err(refused(table_code(error), place)),
+        Err(TableFault::NoMemory) => Err(Unaccepted::NoMemory),
+    }
 }

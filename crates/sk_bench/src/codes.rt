@@ -1,10 +1,11 @@
 //! The names of errors, as refusals write them.
 ghost use Rattle.std.specs.Prelude.{◌≡◌};
-ghost use Rattle.sk_bench.specs.Codes.{job_code, lex_code, sort_code};
+ghost use Rattle.sk_bench.specs.Codes.{job_code, lex_code, sort_code, table_code};
 
 use crate::JobError;
 use sk_lex::LexError;
 use sk_sort::SortError;
+use sk_table::TableError;
 
 /// The name of a lexical error.
 pub(crate) fn lex_code(error: LexError) -> &'static str
@@ -48,6 +49,24 @@ pub(crate) fn job_code(error: JobError) -> &'static str
         JobError::WrongPoint => "WrongPoint",
         JobError::Duplicate => "Duplicate",
         JobError::Empty => "Empty",
-        JobError::Later => "Later",
+    }
+}
+
+/// The name of why a text is no table.
+pub(crate) fn table_code(error: TableError) -> &'static str
+    ensures { result.now ≡ table_code error }
+{
+    match error {
+        TableError::Lex(error) => lex_code(error),
+        TableError::Unexpected => "Unexpected",
+        TableError::WrongDomain => "WrongDomain",
+        TableError::UnknownHook => "UnknownHook",
+        TableError::WrongPoint => "WrongPoint",
+        TableError::WrongCount => "WrongCount",
+        TableError::UnknownName => "UnknownName",
+        TableError::TooManyNames => "TooManyNames",
+        TableError::Duplicate => "Duplicate",
+        TableError::Empty => "Empty",
+        TableError::TooMany => "TooMany",
     }
 }

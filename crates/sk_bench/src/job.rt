@@ -4,12 +4,15 @@ ghost use Rattle.sk_bench.specs.declared.job.JobFault.TheVariants as fault;
 
 use sk_base::{Names, NoMemory, Place};
 use sk_def::HookId;
+use sk_interval::Interval;
 use sk_lex::LexError;
+use sk_sign::Sign;
+use sk_table::Covers;
 use sk_term::Arena;
 use sk_value::Tuple;
 use thiserror::Error;
 
-/// A job that was read. Its cover lines are read and dropped.
+/// A job that was read. All its stores are over all names of the job.
 #[derive(Drop)]
 pub struct Job {
     /// The program, over all names of the job.
@@ -18,6 +21,10 @@ pub struct Job {
     pub names: Names,
     /// The call of the start line, if there is one.
     pub start: Option<Start>,
+    /// The cover lines of signs, in order.
+    pub sign: Covers<Sign>,
+    /// The cover lines of intervals, in order.
+    pub interval: Covers<Interval>,
 }
 
 /// The call of a start line. The point is one of the hook's sort, and the inputs have the hook's sorts.
@@ -53,9 +60,6 @@ pub enum JobError {
     Duplicate,
     #[error("a component is empty")]
     Empty,
-    /// The hook of a cover line has inputs. Such lines can't be read yet.
-    #[error("a cover line with inputs can't be read yet")]
-    Later,
 }
 
 /// An error with its place, or want of memory.

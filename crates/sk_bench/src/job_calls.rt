@@ -1,5 +1,5 @@
-//! The calls in a job's lines: a hook, a point and inputs.
-ghost use Rattle.std.specs.Prelude.{◌≡◌, ◌+◌, ◌==◌, ◌<◌, ◌≤◌, [], drop, length, true, Ok, IfOk, IsTrue, List};
+//! The call in a job's start line: a hook, a point and inputs.
+ghost use Rattle.std.specs.Prelude.{◌≡◌, ◌+◌, ◌<◌, ◌≤◌, drop, length, true, Ok, IfOk, IsTrue, List};
 ghost use Rattle.sk_base.specs.Answer.{Gives};
 ghost use Rattle.sk_def.specs.Fits.{DefinitionFits};
 ghost use Rattle.sk_lex.specs.Symbols.{number_of, symbols};
@@ -10,7 +10,7 @@ ghost use Rattle.sk_term.specs.Program.{IsProgramOf};
 ghost use Rattle.sk_term.specs.declared.node.TermNode.{TermNode};
 ghost use Rattle.sk_deriv.specs.Moves.{fit_hook};
 ghost use Rattle.sk_deriv.specs.Reading.{read_tuple};
-ghost use Rattle.sk_bench.specs.Jobs.{at_front, cover_hook, hook_of, inputs_of, is_point, point_of, read_call, read_cover, read_inputs, tuple_error, tupled, StartFits};
+ghost use Rattle.sk_bench.specs.Jobs.{at_front, hook_of, inputs_of, is_point, point_of, read_call, read_inputs, tuple_error, tupled, StartFits};
 
 use crate::job_marks::{hook_of, point_of};
 use crate::{JobError, Start};
@@ -35,7 +35,12 @@ fn tuple_error(error: TupleError) -> JobError
 }
 
 /// The hook at a place.
-fn hook_at(def: &Def, text: &[u8], tokens: &[Token], at: usize) -> Result<HookId, Refused<JobError>>
+pub(crate) fn hook_at(
+    def: &Def,
+    text: &[u8],
+    tokens: &[Token],
+    at: usize,
+) -> Result<HookId, Refused<JobError>>
     requires fits { DefinitionFits def.now }
     requires tokens { tokens_of text.now ≡ Ok tokens.now }
     ensures gives { Gives (λ hook. hook) bad_of result (at_front at (hook_of def.now) (drop at (symbols text.now tokens.now))) }
@@ -51,36 +56,8 @@ fn hook_at(def: &Def, text: &[u8], tokens: &[Token], at: usize) -> Result<HookId
     }
 }
 
-/// The hook of a cover line at a place. One with inputs can't be read yet.
-fn cover_hook_at(
-    def: &Def,
-    text: &[u8],
-    tokens: &[Token],
-    at: usize,
-) -> Result<HookId, Refused<JobError>>
-    requires fits { DefinitionFits def.now }
-    requires tokens { tokens_of text.now ≡ Ok tokens.now }
-    ensures gives { Gives (λ hook. hook) bad_of result (at_front at (cover_hook def.now) (drop at (symbols text.now tokens.now))) }
-    ensures declared { IfOk result (λ hook. hook.0 < length def.now.hooks) }
-    ensures place { IfOk result (λ hook. at < length tokens.now) }
-{
-    let Some(lexeme) = lexeme_at(text, tokens, at) else {
-        return Err(Refused::Bad(JobError::Unexpected, at));
-    };
-    match hook_of(def, lexeme) {
-        Ok(hook) => {
-            if def.hooks.get(usize::from(hook.0)).inputs.is_empty() {
-                Ok(hook)
-            } else {
-                Err(Refused::Bad(JobError::Later, at))
-            }
-        }
-        Err(error) => Err(Refused::Bad(error, at)),
-    }
-}
-
 /// The point of the hook's sort at a place.
-fn point_at(
+pub(crate) fn point_at(
     def: &Def,
     program: &Arena,
     hook: HookId,
@@ -183,26 +160,4 @@ pub(crate) fn read_call(
 {
     let hook = hook_at(def, text, tokens, at)?;
     read_inputs(alloc, def, program, names, hook, text, tokens, at)
-}
-
-/// The place after the call of a cover line at a place.
-#[tactic(auto, unfolding(crate::specs::Jobs::read_cover))]
-pub(crate) fn read_cover(
-    alloc: Global,
-    def: &Def,
-    program: &Arena,
-    text: &[u8],
-    tokens: &[Token],
-    at: usize,
-) -> Result<usize, Refused<JobError>>
-    requires fits { DefinitionFits def.now }
-    requires program { IsProgramOf def.now program.now }
-    requires tokens { tokens_of text.now ≡ Ok tokens.now }
-    ensures gives { Gives (λ end. end) bad_of result (read_cover def.now program.now.nodes at (drop at (symbols text.now tokens.now))) }
-    ensures place { IfOk result (λ end. (at < end) × (end ≤ length tokens.now)) }
-{
-    let hook = cover_hook_at(def, text, tokens, at)?;
-    let mut names = Names::new(alloc);
-    let (_, end) = read_inputs(alloc, def, program, &mut names, hook, text, tokens, at)?;
-    Ok(end)
 }

@@ -1,19 +1,27 @@
 //! The lines of a job after its program: what is expected meets the next token.
 ghost use Rattle.std.specs.Prelude.{◌≡◌, ◌+◌, ◌≤◌, ◌<◌, ◌∷◌, drop, length, Ok, IfOk, OnOk};
+ghost use Rattle.sk_interval.specs.Intervals.{interval_domain};
+ghost use Rattle.sk_interval.specs.Texts.{interval_texts};
+ghost use Rattle.sk_sign.specs.Signs.{sign_domain};
+ghost use Rattle.sk_sign.specs.Texts.{sign_texts};
 ghost use Rattle.sk_base.specs.Answer.{Gives};
 ghost use Rattle.sk_lex.specs.Symbols.{symbol, symbols};
 ghost use Rattle.sk_lex.specs.Tokens.{tokens_of};
 ghost use Rattle.sk_lex.specs.Turns.{turn_of, bad_of};
 ghost use Rattle.sk_bench.specs.Jobs as spec;
-ghost use Rattle.sk_bench.specs.Jobs.{alone, dropped, line_rules, may_end, meets, started, Lines};
-ghost use Rattle.sk_bench.specs.JobMeets.{HasFittingStart, Keeps};
+ghost use Rattle.sk_bench.specs.Jobs.{alone, interval_covered, line_rules, may_end, meets, sign_covered, started, Lines};
+ghost use Rattle.sk_bench.specs.JobMeets.{Keeps, LinesFit};
 
-use crate::job_calls::{read_call, read_cover};
+use crate::job_calls::read_call;
+use crate::job_covers::{push_cover, read_cover};
 use crate::job_marks::is_word;
 use crate::{JobError, Start};
 use sk_base::Names;
 use sk_def::Def;
+use sk_interval::Interval;
 use sk_lex::{Lexeme, Reader, Refused, Taken, Token};
+use sk_sign::Sign;
+use sk_table::Cover;
 use sk_term::Arena;
 use std::alloc::Global;
 use std::marker::Model;
@@ -28,18 +36,22 @@ pub(crate) enum Expected {
     /// The call of the start line.
     Call,
     /// The domain of a cover line.
-    Domain,
-    /// The call of a cover line.
-    Cover,
+    DomainWord,
+    /// The call of a cover line of signs.
+    SignCover,
+    /// The call of a cover line of intervals.
+    IntervalCover,
 }
 
-/// What was read so far: the program, the names and the start line's call.
+/// What was read so far: the program, the names, the start line's call and the cover lines.
 #[derive(Drop)]
 pub(crate) struct LineReader<'a> {
     pub(crate) def: &'a Def,
     pub(crate) program: &'a Arena,
     pub(crate) names: Names,
     pub(crate) start: Option<Start>,
+    pub(crate) sign: Vec<Cover<Sign>>,
+    pub(crate) interval: Vec<Cover<Interval>>,
 }
 
 impl<'a> Model for LineReader<'a> {
@@ -54,6 +66,8 @@ impl<'a> Model for LineReader<'a> {
       nodes = reader.program.now.nodes;
       names = reader.names;
       start = reader.start;
+      sign = reader.sign.items;
+      interval = reader.interval.items;
     } };
 
     ghost invariant = { λ reader. DefinitionFits reader.def.now × IsProgramOf reader.def.now reader.program.now };
@@ -69,7 +83,7 @@ fn cover_line(lexeme: Lexeme, at: usize) -> Met
 {
     if is_word(lexeme, b"cover") {
         Ok(Taken {
-            expected: &[Expected::Domain, Expected::Cover, Expected::Line],
+            expected: &[Expected::DomainWord, Expected::Line],
             more: 0,
         })
     } else {
@@ -92,21 +106,19 @@ fn first_line(lexeme: Lexeme, at: usize) -> Met
     }
 }
 
-/// The name of a domain.
-fn is_domain(lexeme: Lexeme) -> bool
-    ensures { result ≡ spec.is_domain (symbol lexeme.entry) }
-{
-    is_word(lexeme, b"sign") || is_word(lexeme, b"interval")
-}
-
 /// The domain of a cover line.
 fn domain(lexeme: Lexeme, at: usize) -> Met
     ensures gives { (state : Lines) → Gives (λ taken. turn_of state taken) bad_of result (alone state at (spec.domain (symbol lexeme.entry))) }
     ensures taken { IfOk result (λ taken. taken.more ≡ 0) }
 {
-    if is_domain(lexeme) {
+    if is_word(lexeme, b"sign") {
         Ok(Taken {
-            expected: &[],
+            expected: &[Expected::SignCover],
+            more: 0,
+        })
+    } else if is_word(lexeme, b"interval") {
+        Ok(Taken {
+            expected: &[Expected::IntervalCover],
             more: 0,
         })
     } else {
@@ -118,10 +130,11 @@ impl<'a> LineReader<'a> {
     /// The call of the start line.
     fn call(&mut self, alloc: Global, text: &[u8], tokens: &[Token], at: usize) -> Met
         requires tokens { tokens_of text.now ≡ Ok tokens.now }
+        requires fit { LinesFit self.old }
         ensures gives { Gives (λ taken. turn_of self.new taken) bad_of result
             (started self.old at (spec.read_call self.old.def self.old.nodes self.old.names at (drop at (symbols text.now tokens.now)))) }
         ensures taken { IfOk result (λ taken. at + 1 + taken.more ≤ length tokens.now) }
-        ensures start { OnOk result (HasFittingStart self.new) }
+        ensures fit { OnOk result (LinesFit self.new) }
         ensures kept { Keeps self.old self.new }
     {
         let (start, end) = read_call(
@@ -140,14 +153,52 @@ impl<'a> LineReader<'a> {
         })
     }
 
-    /// The call of a cover line, which is dropped.
-    fn cover(&self, alloc: Global, text: &[u8], tokens: &[Token], at: usize) -> Met
+    /// The call of a cover line of signs.
+    fn sign_cover(&mut self, alloc: Global, text: &[u8], tokens: &[Token], at: usize) -> Met
         requires tokens { tokens_of text.now ≡ Ok tokens.now }
-        ensures gives { Gives (λ taken. turn_of self.now taken) bad_of result
-            (dropped self.now at (spec.read_cover self.now.def self.now.nodes at (drop at (symbols text.now tokens.now)))) }
+        requires fit { LinesFit self.old }
+        ensures gives { Gives (λ taken. turn_of self.new taken) bad_of result
+            (sign_covered self.old at (spec.read_cover sign_domain sign_texts self.old.def self.old.nodes self.old.names at (drop at (symbols text.now tokens.now)))) }
         ensures taken { IfOk result (λ taken. at + 1 + taken.more ≤ length tokens.now) }
+        ensures fit { OnOk result (LinesFit self.new) }
+        ensures kept { Keeps self.old self.new }
     {
-        let end = read_cover(alloc, self.def, self.program, text, tokens, at)?;
+        let (cover, end) = read_cover(
+            alloc,
+            self.def,
+            self.program,
+            &mut self.names,
+            text,
+            tokens,
+            at,
+        )?;
+        push_cover(&mut self.sign, cover)?;
+        Ok(Taken {
+            expected: &[],
+            more: end - (at + 1),
+        })
+    }
+
+    /// The call of a cover line of intervals.
+    fn interval_cover(&mut self, alloc: Global, text: &[u8], tokens: &[Token], at: usize) -> Met
+        requires tokens { tokens_of text.now ≡ Ok tokens.now }
+        requires fit { LinesFit self.old }
+        ensures gives { Gives (λ taken. turn_of self.new taken) bad_of result
+            (interval_covered self.old at (spec.read_cover interval_domain interval_texts self.old.def self.old.nodes self.old.names at (drop at (symbols text.now tokens.now)))) }
+        ensures taken { IfOk result (λ taken. at + 1 + taken.more ≤ length tokens.now) }
+        ensures fit { OnOk result (LinesFit self.new) }
+        ensures kept { Keeps self.old self.new }
+    {
+        let (cover, end) = read_cover(
+            alloc,
+            self.def,
+            self.program,
+            &mut self.names,
+            text,
+            tokens,
+            at,
+        )?;
+        push_cover(&mut self.interval, cover)?;
         Ok(Taken {
             expected: &[],
             more: end - (at + 1),
@@ -168,18 +219,19 @@ impl<'a> LineReader<'a> {
         requires tokens { tokens_of text.now ≡ Ok tokens.now }
         requires seen { drop at (symbols text.now tokens.now) ≡ symbol lexeme ∷ drop (at + 1) (symbols text.now tokens.now) }
         requires place { at < length tokens.now }
-        requires start { HasFittingStart self.old }
+        requires fit { LinesFit self.old }
         ensures gives { Gives (λ taken. turn_of self.new taken) bad_of result (meets expected self.old at (symbol lexeme.entry) (drop (at + 1) (symbols text.now tokens.now))) }
         ensures taken { IfOk result (λ taken. at + 1 + taken.more ≤ length tokens.now) }
-        ensures start { OnOk result (HasFittingStart self.new) }
+        ensures fit { OnOk result (LinesFit self.new) }
         ensures kept { Keeps self.old self.new }
     {
         match expected {
             Expected::First => first_line(lexeme, at),
             Expected::Line => cover_line(lexeme, at),
             Expected::Call => self.call(alloc, text, tokens, at),
-            Expected::Domain => domain(lexeme, at),
-            Expected::Cover => self.cover(alloc, text, tokens, at),
+            Expected::DomainWord => domain(lexeme, at),
+            Expected::SignCover => self.sign_cover(alloc, text, tokens, at),
+            Expected::IntervalCover => self.interval_cover(alloc, text, tokens, at),
         }
     }
 }
@@ -191,7 +243,7 @@ impl<'a> Reader for LineReader<'a> {
 
     ghost rules = { line_rules };
 
-    ghost within = { HasFittingStart };
+    ghost within = { LinesFit };
 
     ghost keeps = { Keeps };
 

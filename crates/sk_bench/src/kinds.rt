@@ -1,5 +1,12 @@
 //! The kinds of commands.
 
+/// A numeric domain, by its word.
+#[derive(Clone, Copy, Debug, PartialEq, Eq)]
+pub enum DomainWord {
+    Sign,
+    Interval,
+}
+
 /// What the words ask for. The names of files stay in the words.
 #[derive(Clone, Copy, Debug, PartialEq, Eq)]
 pub enum Command {
@@ -10,4 +17,6 @@ pub enum Command {
         /// The greatest height of a derivation.
         depth: u32,
     },
+    /// `verify DEF JOB DOMAIN TABLE`: whether the table justifies all its triples and covers the job's cover lines.
+    Verify(DomainWord),
 }

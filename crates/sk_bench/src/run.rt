@@ -5,7 +5,8 @@ ghost use Rattle.sk_base.specs.Place.{place_at};
 ghost use Rattle.sk_term.specs.Program.{IsProgramOf};
 ghost use Rattle.sk_bench.specs.Accepted.{refused_at};
 ghost use Rattle.sk_bench.specs.Refused.{refused_of};
-ghost use Rattle.sk_bench.specs.Plan.{Read, WriteResults};
+ghost use Rattle.sk_bench.specs.Asked.{results as asked};
+ghost use Rattle.sk_bench.specs.Plan.{Read, WriteAnswer};
 ghost use Rattle.sk_bench.specs.Commands.{run_job, run_on, question};
 ghost use Rattle.sk_bench.specs.JobText.{seen};
 ghost use Rattle.sk_bench.specs.Following.{Follows, Prepares};
@@ -110,7 +111,7 @@ fn run_start(
 ) -> Result<Output, Stop>
     requires program { IsProgramOf checked.now job.now.arena }
     requires over { job.now.arena.names ≡ length job.now.names }
-    ensures { Prepares (WriteResults (question checked.now depth (seen job.now) start.now)) result }
+    ensures { Prepares (WriteAnswer (asked (question checked.now depth (seen job.now) start.now))) result }
 {
     let found = results(
         alloc,

@@ -76,8 +76,8 @@ fn a_sum_is_run(rt: HostRuntime) -> Result<(), Fail> {
     Ok(())
 }
 
-/// Definitions, and what `check` and `run` write of them.
-const DEFINITIONS: [(&str, &str, &str, Status); 9] = [
+/// Definitions and tables, and what the commands write of them.
+const TEXTS: [(&str, &str, &str, Status); 14] = [
     (
         "check d",
         "",
@@ -132,12 +132,42 @@ const DEFINITIONS: [(&str, &str, &str, Status); 9] = [
         "refused job 2:9 UnknownConstructor\n",
         Status::Job,
     ),
+    (
+        "verify d j sign t",
+        "table 1 sign eval 0 () -> (pos) eval 1 () -> (pos) eval 2 () -> (any)",
+        "no triple 1 larger (any)\n",
+        Status::No,
+    ),
+    (
+        "verify d j interval t",
+        "table 1 interval\neval 1 () -> ([1..1])\neval 2 () -> ([0..2])\neval 0 () -> ([1..3])\n",
+        "yes 3 triples\n",
+        Status::Done,
+    ),
+    (
+        "verify d j sign t",
+        "table 1 sign eval 0 () -> (pos)",
+        "no triple 1 uncovered eval 1 ()\n",
+        Status::No,
+    ),
+    (
+        "verify d j sign t",
+        "table 1 sign",
+        "no cover 1\n",
+        Status::No,
+    ),
+    (
+        "verify d j sign t",
+        "table 1 interval",
+        "refused table 1:9 WrongDomain\n",
+        Status::Table,
+    ),
 ];
 
 #[test]
-fn definitions_are_checked(rt: HostRuntime) -> Result<(), Fail> {
+fn texts_are_checked(rt: HostRuntime) -> Result<(), Fail> {
     let alloc = rt.alloc();
-    for (line, text, written, wanted) in DEFINITIONS {
+    for (line, text, written, wanted) in TEXTS {
         let mut files = files_with(alloc, 99, text)?;
         let mut sink = MemSink::new(alloc, 100, &[])?;
         let words = words(alloc, line)?;
@@ -161,7 +191,7 @@ rule at one(n) () { lit(n) -> (x) } -> (x)
 ";
 
 /// Jobs of the second definition, and what `run` writes of them at depth 2.
-const JOBS: [(&str, &str, Status); 21] = [
+const JOBS: [(&str, &str, Status); 24] = [
     (
         "job 01 program two(3, one(9))\nstart go -0 (5) cover interval at 1 ()",
         "result 1 (8)\n0 go 0 (5) -> (8)\n1 at 1 () -> (9)\nresults 1\n",
@@ -251,7 +281,22 @@ const JOBS: [(&str, &str, Status); 21] = [
     ),
     (
         "job 1 program one(9)\ncover sign go 9 (any)",
-        "refused job 2:12 Later\n",
+        "refused job 2:15 WrongPoint\n",
+        Status::Job,
+    ),
+    (
+        "job 1 program two(3, one(9))\ncover sign go 0 (any)\ncover interval go 0 ([0..max])\n",
+        "refused job 4:1 NoStart\n",
+        Status::Job,
+    ),
+    (
+        "job 1 program two(3, one(9))\ncover sign go 0 (none)",
+        "refused job 2:17 Empty\n",
+        Status::Job,
+    ),
+    (
+        "job 1 program two(3, one(9))\ncover interval go 0 ([2..1])",
+        "refused job 2:26 Unexpected\n",
         Status::Job,
     ),
     (
@@ -389,6 +434,7 @@ fn other_words_are_no_command(rt: HostRuntime) -> Result<(), Fail> {
         "run d j 2x",
         "run d j 00000000002",
         "solve d j interval",
+        "verify d j signs t",
     ] {
         let mut files = files(alloc, 99)?;
         let mut sink = MemSink::new(alloc, 100, &[])?;

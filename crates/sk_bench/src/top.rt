@@ -12,6 +12,7 @@ ghost use Rattle.sk_bench.specs.Headline.{IsOneOf, Writes, WritesPrefix, EndsAsT
 use crate::check::check;
 use crate::run::run;
 use crate::status::{Output, Stop};
+use crate::verify_command::verify;
 use crate::{Command, Status, command};
 use sk_base::{Files, Sink, write_all};
 use std::alloc::Global;
@@ -79,6 +80,14 @@ fn produce<F: Files>(
     match command {
         Command::Check => check(alloc, files, word(words, 1)),
         Command::Run { depth } => run(alloc, files, word(words, 1), word(words, 2), depth),
+        Command::Verify(domain) => verify(
+            alloc,
+            files,
+            domain,
+            word(words, 1),
+            word(words, 2),
+            word(words, 4),
+        ),
     }
 }
 

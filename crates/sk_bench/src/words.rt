@@ -2,24 +2,45 @@
 ghost use Rattle.std.specs.Prelude.{◌≡◌, map, option_map, string_bytes};
 ghost use Rattle.std.specs.Char.{is_ascii_digit};
 ghost use Rattle.std.specs.List.{list_all};
-ghost use Rattle.sk_bench.specs.declared.kinds.Command.TheVariants.{Run};
-ghost use Rattle.sk_bench.specs.Words.{is_number, number_up_to, command_of};
+ghost use Rattle.sk_bench.specs.declared.kinds.Command.TheVariants.{Run, Verify};
+ghost use Rattle.sk_bench.specs.Words.{is_number, number_up_to, domain_of, command_of};
 
-use crate::Command;
+use crate::{Command, DomainWord};
 
 /// The greatest depth of `run`.
 const MOST_DEPTH: u32 = 64;
 
-/// The command that the words are, none where they fit no row: `check DEF`, or `run DEF JOB N`, where N has 1 to 10 digits and
-/// is at most 64.
+/// The command that the words are, none where they fit no row: `check DEF`; `run DEF JOB N`, where N has 1 to 10 digits and is
+/// at most 64; or `verify DEF JOB DOMAIN TABLE`, where DOMAIN is `sign` or `interval`.
 pub fn command(words: &[String]) -> Option<Command>
     ensures { result ≡ command_of (map string_bytes words.now) }
 {
     match words {
         [word, _] if word.as_str() == "check" => Some(Command::Check),
         [word, _, _, depth] if word.as_str() == "run" => run(depth.as_str()),
+        [word, _, _, domain, _] if word.as_str() == "verify" => verify(domain.as_str()),
         _ => None,
     }
+}
+
+/// The command `verify` over the domain of this word.
+fn verify(domain: &str) -> Option<Command>
+    ensures { result ≡ option_map Verify (domain_of domain.now) }
+{
+    domain_named(domain).map(|domain| Command::Verify(domain))
+}
+
+/// The domain of a word.
+fn domain_named(word: &str) -> Option<DomainWord>
+    ensures { result ≡ domain_of word.now }
+{
+    if word == "sign" {
+        return Some(DomainWord::Sign);
+    }
+    if word == "interval" {
+        return Some(DomainWord::Interval);
+    }
+    None
 }
 
 /// The command `run` with this depth.

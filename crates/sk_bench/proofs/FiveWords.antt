@@ -1,0 +1,17 @@
+-- The words of a command, one by one.
+use Rattle.std.proofs.Common.{◌≡◌, ℕ, ◌<◌, ◌≤◌, true, List, [], ◌∷◌, length, map, get_or, option_map, codes, bytes_eq, refl, arith, subst, sym}
+use Rattle.sk_bench.specs.declared.kinds.Command.TheVariants.{Verify}
+use Rattle.sk_bench.specs.Words.{command_of, domain_of}
+
+-- five words, of which the first is `verify`
+pub verify_words : {S : Type 0} (bytes : S → List ℕ) (words : List S) (first domain : S) → 5 ≤ length words → length words < 6 → first ≡ get_or words 0 first
+    → domain ≡ get_or words 3 domain → bytes_eq (bytes first) (codes "verify") ≡ true → command_of (map bytes words) ≡ option_map Verify (domain_of (bytes domain))
+verify_words {S} bytes (a ∷ b ∷ c ∷ d ∷ e ∷ []) first domain more less is fourth spelled =
+    let verifies : bytes_eq (bytes a) (codes "verify") ≡ true = subst (λ (s : S). bytes_eq (bytes s) (codes "verify") ≡ true) is spelled in
+    subst (λ (s : S). command_of (map bytes (a ∷ b ∷ c ∷ d ∷ e ∷ [])) ≡ option_map Verify (domain_of (bytes s))) (sym fourth) (rw verifies refl)
+verify_words bytes (a ∷ b ∷ c ∷ d ∷ e ∷ f ∷ others) first domain more less is fourth spelled = absurd (omega (arith, less))
+verify_words bytes (a ∷ b ∷ c ∷ d ∷ []) first domain more less is fourth spelled = absurd (omega (arith, more))
+verify_words bytes (a ∷ b ∷ c ∷ []) first domain more less is fourth spelled = absurd (omega (arith, more))
+verify_words bytes (a ∷ b ∷ []) first domain more less is fourth spelled = absurd (omega (arith, more))
+verify_words bytes (a ∷ []) first domain more less is fourth spelled = absurd (omega (arith, more))
+verify_words bytes [] first domain more less is fourth spelled = absurd (omega (arith, more))

@@ -1,0 +1,30 @@
+-- What a command is asked in the end, the texts that answer it, and what an answer says.
+use Rattle.std.specs.Prelude.{◌≡◌, ⊤, ℕ, List}
+use Rattle.sk_sign.specs.Signs.{sign_domain}
+use Rattle.sk_sign.specs.Texts.{sign_texts}
+use Rattle.sk_sign.specs.declared.sign.Sign.{Sign}
+use Rattle.sk_interval.specs.Intervals.{interval_domain}
+use Rattle.sk_interval.specs.Texts.{interval_texts}
+use Rattle.sk_interval.specs.declared.bounds.Interval.{Interval}
+use Rattle.sk_bench.specs.declared.status.Ending.{Ending}
+use Rattle.sk_bench.specs.declared.status.Ending.TheVariants.{Done}
+use Rattle.sk_bench.specs.Outcomes.{Question, IsResultsText}
+use Rattle.sk_bench.specs.Verdicts.{Trial, IsVerdictText, VerdictMeans}
+
+-- the results of a call, or the verdict on a table of a domain
+pub data Asked : Type 0 where
+  results : Question → Asked
+  sign_verdict : Trial Sign → Asked
+  interval_verdict : Trial Interval → Asked
+
+-- the command ends so, with this text
+abbrev pub IsAnswer : Asked → Ending → List ℕ → Type 0
+IsAnswer (results q) ending text = (ending ≡ Done) × IsResultsText q text
+IsAnswer (sign_verdict trial) ending text = IsVerdictText sign_domain sign_texts trial ending text
+IsAnswer (interval_verdict trial) ending text = IsVerdictText interval_domain interval_texts trial ending text
+
+-- what it says of the derivations of the program where a command ends so; the text of results says all by itself
+abbrev pub Means : Asked → Ending → Type 0
+Means (results q) ending = ⊤
+Means (sign_verdict trial) ending = VerdictMeans sign_domain trial ending
+Means (interval_verdict trial) ending = VerdictMeans interval_domain trial ending
