@@ -3,3 +3,5 @@ pub mod Tables
 pub mod Sides
 pub mod Tabled
 pub mod Laws
+pub mod Keys
+pub mod Jobs

@@ -1,8 +1,7 @@
 -- The reading of rules as the rounds see it: the keys of a program, the cover lines, and the walks of keys.
-use Rattle.std.specs.Prelude.{◌≡◌, ℕ, ℤ, Bool, true, ◌==◌, ◌&&◌, if◌then◌else◌, List, map, Option, Some, None, Result, Ok, Err, slice_get, All}
+use Rattle.std.specs.Prelude.{◌≡◌, ℤ, Bool, true, if◌then◌else◌, List, map, Option, Some, None, Result, Ok, Err, slice_get, All}
 use Rattle.std.specs.Option.{option_and_then, option_map}
 use Rattle.sk_base.specs.declared.flow.FlowSort.{FlowSort}
-use Rattle.sk_def.specs.declared.ids.HookId.{HookId}
 use Rattle.sk_def.specs.declared.def.Hook.{Hook}
 use Rattle.sk_term.specs.declared.node.TermNode.{TermNode}
 use Rattle.sk_term.specs.Terms.{keys, takes_node}
@@ -12,7 +11,7 @@ use Rattle.sk_lattice.specs.Empty.{is_proper}
 use Rattle.sk_absfilter.specs.Abstract.{Outcome}
 use Rattle.sk_table.specs.declared.triple.Triple.{Triple}
 use Rattle.sk_table.specs.declared.triple.Cover.{Cover}
-use Rattle.sk_abswalk.specs.Walk.{Flows, Ends, uncovered, ill, with, Walk, Answers, abstract_walk}
+use Rattle.sk_abswalk.specs.Walk.{Flows, Ends, uncovered, ill, with, Walk, abstract_walk}
 pub use Rattle.sk_abswalk.specs.Keys.{Key, same_key, call_with, key_of, by_key}
 use Rattle.sk_abswalk.specs.Fits.{CallFits}
 use Rattle.sk_rounds.specs.Walks.{Side, Inputs, Outputs, Call, Table, Walks}

@@ -1,5 +1,5 @@
 -- Lists of triples as tables of the rounds, and the least accepted one.
-use Rattle.std.specs.Prelude.{◌≡◌, Bool, true, false, ◌&&◌, List, [], ◌∷◌, Some, All}
+use Rattle.std.specs.Prelude.{◌≡◌, Bool, true, ◌&&◌, List, Some, All}
 use Rattle.std.specs.List.{AllByRecursion, list_any}
 use Rattle.sk_deriv.specs.Moves.{Setting}
 use Rattle.sk_lattice.specs.Domain.{Domain}

@@ -1,5 +1,6 @@
 //! A side of a key in a round.
 ghost use Rattle.std.specs.Prelude.{◌≡◌, true, IsTrue, IfOk, Some, None};
+ghost use Rattle.std.specs.Option.{option_copied};
 ghost use Rattle.sk_deriv.specs.Moves.{Setting};
 ghost use Rattle.sk_table.specs.declared.triple.Cover.{Cover};
 ghost use Rattle.sk_lattice.specs.Order.{tuples_fit};
@@ -14,14 +15,27 @@ use sk_lattice::{AbsTuple, NumDom, Thresholds};
 use std::alloc::Global;
 
 /// Whether a side lies below another one; none lies below all.
-fn lies_below<D: NumDom>(side: &Option<AbsTuple<D>>, other: &Option<AbsTuple<D>>) -> bool
-    ensures { result ≡ outcome_leq D.domain side.now other.now }
+pub(crate) fn lies_below<D: NumDom>(side: Option<&AbsTuple<D>>, other: Option<&AbsTuple<D>>) -> bool
+    ensures { result ≡ outcome_leq D.domain (option_copied side.entry) (option_copied other.entry) }
 {
     match (side, other) {
         (None, _) => true,
         (Some(_), None) => false,
         (Some(tuple), Some(other)) => tuple.leq(other),
     }
+}
+
+/// An equal side.
+pub(crate) fn copy_side<D: NumDom>(
+    alloc: Global,
+    side: Option<&AbsTuple<D>>,
+) -> Result<Option<AbsTuple<D>>, NoMemory>
+    ensures { IfOk result (λ copy. copy ≡ option_copied side.entry) }
+{
+    Ok(match side {
+        Some(tuple) => Some(tuple.copy(alloc)?),
+        None => None,
+    })
 }
 
 /// The join of two tuples of the same sorts up to round 3 and on finite domains, and else the widening of the old one
@@ -55,7 +69,7 @@ pub(crate) fn raise<D: NumDom>(
     requires { IsTrue (sides_fit old new) }
     ensures { IfOk result (λ side. (s : Setting) (covers : _) → side ≡ raised (walks_of D.domain D.FINITE marks.now s covers) round old new) }
 {
-    if lies_below(&new, &old) {
+    if lies_below(new.as_ref(), old.as_ref()) {
         return Ok(old);
     }
     match (old, new) {

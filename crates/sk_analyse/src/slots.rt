@@ -1,12 +1,15 @@
 //! One side of all keys of a program.
 ghost use Rattle.std.specs.Prelude.{◌≡◌, ◌≤◌, ◌+◌, ◌*◌, true, length, map, replicate, IsTrue, IfOk, OnOk, Some, None, if◌then◌else◌};
+ghost use Rattle.std.specs.Option.{option_copied};
 ghost use Rattle.sk_deriv.specs.Moves.{Setting};
 ghost use Rattle.sk_table.specs.declared.triple.Cover.{Cover as Asked};
 ghost use Rattle.sk_rounds.specs.Rounds.{side_join, join_calls};
-ghost use Rattle.sk_analyse.specs.Reading.{same_key, key_of, keyed, walks_of};
+ghost use Rattle.sk_analyse.specs.Reading.{Key, same_key, key_of, keyed, walks_of};
 ghost use Rattle.sk_analyse.specs.Sides.{sides_fit, side_of, with_call, HasPlace, CanHear};
 
+use crate::hook_count::HookCount;
 use crate::side::join;
+use sk_abswalk::KeyOutputs;
 use sk_base::{NoMemory, Seq};
 use sk_def::HookId;
 use sk_lattice::{AbsTuple, NumDom};
@@ -16,7 +19,7 @@ use std::alloc::Global;
 /// A tuple or none for each pair of a hook and a point: those of point 0 first, in the order of the hooks.
 #[derive(Drop)]
 pub(crate) struct Slots<D: NumDom> {
-    pub(crate) hooks: usize,
+    pub(crate) hooks: HookCount,
     pub(crate) slots: Seq<Option<AbsTuple<D>>>,
 }
 
@@ -31,15 +34,38 @@ impl<D: NumDom> Slots<D> {
         for _slot in 0..hooks * points {
             slots.push(None)?;
         }
-        Ok(Slots { hooks, slots })
+        Ok(Slots {
+            hooks: HookCount::of(hooks),
+            slots,
+        })
     }
 
     /// The place of a pair.
     fn place(&self, hook: HookId, point: u16) -> usize
-        requires { self.now.hooks ≤ 8 }
         ensures { result ≡ point * self.now.hooks + hook.0 }
     {
-        usize::from(point) * self.hooks + usize::from(hook.0)
+        usize::from(point) * self.hooks.get() + usize::from(hook.0)
+    }
+
+    /// What stands at a pair, none where it has no slot.
+    pub(crate) fn side(&self, hook: HookId, point: u16) -> Option<&AbsTuple<D>>
+        ensures { option_copied result ≡ side_of self.now.hooks self.now.slots (hook, point) }
+    {
+        if usize::from(hook.0) >= self.hooks.get() {
+            return None;
+        }
+        self.slots.as_slice().get(self.place(hook, point))?.as_ref()
+    }
+
+    /// Puts a side into the slot of a pair.
+    pub(crate) fn write(&mut self, hook: HookId, point: u16, side: Option<AbsTuple<D>>)
+        requires { HasPlace self.old.hooks self.old.slots (hook, point) }
+        ensures written { (k : Key) → side_of self.new.hooks self.new.slots k ≡ (if same_key (hook, point) k then side else side_of self.old.hooks self.old.slots k) }
+        ensures size { length self.new.slots ≡ length self.old.slots }
+        ensures hooks { self.new.hooks ≡ self.old.hooks }
+    {
+        let place = self.place(hook, point);
+        self.slots.put(place, side);
     }
 
     /// Joins the inputs of a call into the side of its key. Where memory is refused nothing changes.
@@ -68,5 +94,16 @@ impl<D: NumDom> Slots<D> {
             self.hear(alloc, call)?;
         }
         Ok(())
+    }
+}
+
+/// The outputs of keys are what stands in their slots.
+impl<D: NumDom> KeyOutputs<D> for Slots<D> {
+    ghost use Rattle.sk_analyse.specs.Sides.{side_of};
+
+    ghost by_key = { λ side. side_of side.hooks side.slots };
+
+    fn outputs_of(&self, hook: HookId, point: u16) -> Option<&AbsTuple<D>> {
+        self.side(hook, point)
     }
 }

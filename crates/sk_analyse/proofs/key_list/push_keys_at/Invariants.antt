@@ -1,0 +1,10 @@
+use Rattle.std.proofs.Common.{◌≡◌, ◌++◌, drop, Some}
+use Rattle.std.specs.List.{slice_get}
+use Rattle.sk_term.specs.declared.node.TermNode.{TermNode}
+use Rattle.sk_analyse.specs.Keys.{keys_at}
+use Rattle.sk_analyse.proofs.key_list.push_keys_at.Given as goal
+
+abbrev pub invariant-loop-place : goal.invariant-loop-place
+invariant-loop-place l =
+    (node : TermNode) → slice_get l.arena.nodes l.point ≡ Some node →
+    l.list ++ keys_at l.checked node l.point l.place (drop l.place l.checked.hooks) ≡ l.fn.list ++ keys_at l.checked node l.point 0 l.checked.hooks
