@@ -4,3 +4,7 @@ pub mod Turns
 pub mod RulesFound
 pub mod KeyTurns
 pub mod KeysMade
+pub mod NewFlows
+pub mod EnvFits
+pub mod LinesFit
+pub mod ListFits

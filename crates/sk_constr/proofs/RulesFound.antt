@@ -1,5 +1,5 @@
 -- The rule of a key in a well-sorted definition.
-use Rattle.std.proofs.Common.{◌≡◌, ℕ, zero, suc, ◌+◌, ◌<◌, Bool, true, false, ◌&&◌, cond, eqb, List, [], ◌∷◌, ◌++◌, length, take, Option, Some, None, refl, ap, sym, subst, ◌∙◌, slice_get, All, arith}
+use Rattle.std.proofs.Common.{◌≡◌, ℕ, zero, suc, ◌+◌, ◌<◌, Bool, true, false, ◌&&◌, cond, eqb, List, [], ◌∷◌, ◌++◌, length, take, map, Option, Some, None, refl, ap, sym, subst, ◌∙◌, slice_get, All, arith}
 use Rattle.std.specs.Prelude.{find, IsSome}
 use Rattle.std.specs.Option.{option_map, option_map_or}
 use Rattle.std.proofs.lemmas.Bool.{eqb-true}
@@ -13,6 +13,8 @@ use Rattle.sk_def.specs.declared.def.Hook.{Hook}
 use Rattle.sk_def.specs.declared.def.Con.{Con}
 use Rattle.sk_def.specs.Rules.{is_rule_for, rule_of}
 use Rattle.sk_def.specs.Fits.{RuleFits}
+use Rattle.sk_def.specs.declared.sorts.VarSort.TheVariants.{Flow}
+use Rattle.sk_def.specs.Sorts.{HaveSorts}
 use Rattle.sk_walk.specs.Sorted.{Sorted}
 use Rattle.sk_sort.specs.declared.error.SortError.TheVariants.{WrongSort, DuplicateRule}
 use Rattle.sk_sort.specs.Checks.{check, first_error, count_check, new_checks}
@@ -28,7 +30,7 @@ use Rattle.sk_term.specs.Program.{con_of_point, children_of_point}
 use Rattle.sk_term.specs.Terms.{takes_node, arguments_of}
 use Rattle.sk_constr.specs.Keys.{RuleOfKey}
 
-all_at : {A : Type 0} (P : A → Type 0) (xs : List A) (k : ℕ) (x : A) → All P xs → slice_get xs k ≡ Some x → P x
+pub all_at : {A : Type 0} (P : A → Type 0) (xs : List A) (k : ℕ) (x : A) → All P xs → slice_get xs k ≡ Some x → P x
 all_at P xs k x h e = subst P (get_or_from_slice_get xs k x x e) (h k x (slice_get_within xs k x e))
 
 -- the first element that passes stands in the list
@@ -142,4 +144,7 @@ rule_of_parts d nodes id point con rule hook entry is_sorted p is hook-is con-is
       after = sorted.after;
       bones_sorted = subst (λ (h : Hook). Sorted d entry.sort 1 rule.bones (header_sorts rule h entry) sorted.after) same_hook
           (subst (λ (k : Con). Sorted d k.sort 1 rule.bones (header_sorts rule sorted.hook k) sorted.after) same_con sorted.bones);
+      outputs_sorted = subst (λ (h : Hook). HaveSorts sorted.after rule.outputs (map Flow h.outputs)) same_hook sorted.outputs;
+      place = found.0;
+      stands = found.1;
     }

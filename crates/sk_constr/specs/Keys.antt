@@ -9,7 +9,8 @@ use Rattle.sk_def.specs.declared.def.Hook.{Hook}
 use Rattle.sk_def.specs.declared.def.Con.{Con}
 use Rattle.sk_def.specs.Rules.{rule_of}
 use Rattle.sk_def.specs.Layout.{AreBelow, BonesFit}
-use Rattle.sk_def.specs.Sorts.{Sorts}
+use Rattle.sk_def.specs.declared.sorts.VarSort.TheVariants.{Flow}
+use Rattle.sk_def.specs.Sorts.{Sorts, HaveSorts}
 use Rattle.sk_walk.specs.Sorted.{Sorted}
 use Rattle.sk_sort.specs.Rules.{header_sorts}
 use Rattle.sk_term.specs.declared.node.TermNode.{TermNode}
@@ -65,7 +66,7 @@ pub record AreConstraints {D : Type 0} (d : Def) (program : Program) (covers : L
 abbrev pub keys_at : Def → TermNode → ℕ → ℕ → List Hook → List (HookId × ℕ)
 keys_at d node point place hooks = map (λ h. (record { 0 = h.0 }, point)) (filter (λ h. takes_node d node h.1) (enumerate_from place hooks))
 
--- A key has a rule, with what a walk of its bones asks for.
+-- A key has a rule of the definition, with what a walk of its bones asks for.
 pub record RuleOfKey (d : Def) (nodes : List TermNode) (id : HookId) (point : ℕ) (rule : Rule) (hook : Hook) (con : Con) : Type 0 where
   pub node : TermNode
   pub node_is : slice_get nodes point ≡ Some node
@@ -81,3 +82,6 @@ pub record RuleOfKey (d : Def) (nodes : List TermNode) (id : HookId) (point : �
   pub bones_fit : BonesFit (length d.hooks) (length rule.vars) 8 rule.bones
   pub after : Sorts
   pub bones_sorted : Sorted d con.sort 1 rule.bones (header_sorts rule hook con) after
+  pub outputs_sorted : HaveSorts after rule.outputs (map Flow hook.outputs)
+  pub place : ℕ
+  pub stands : slice_get d.rules place ≡ Some rule

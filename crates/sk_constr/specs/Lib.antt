@@ -5,3 +5,4 @@ pub mod Keys
 pub mod Worlds
 pub mod Meaning
 pub mod Texts
+pub mod Fits

@@ -1,10 +1,12 @@
 //! The making of the list of constraints.
-ghost use Rattle.std.specs.Prelude.{◌≡◌, ◌<◌, ◌++◌, length, map, slice_get, true, ◌==◌, Some, IfOk, OnOk};
+ghost use Rattle.std.specs.Prelude.{◌≡◌, ◌<◌, ◌++◌, length, map, slice_get, true, ◌==◌, Some, IfOk, OnOk, All};
 ghost use Rattle.sk_def.specs.declared.def.Hook.{Hook};
 ghost use Rattle.sk_term.specs.declared.node.TermNode.{TermNode};
 ghost use Rattle.sk_term.specs.Program.{IsProgramOf};
 ghost use Rattle.sk_term.specs.Terms.{takes_node, keys};
 ghost use Rattle.sk_constr.specs.Worlds.{closed};
+ghost use Rattle.sk_table.specs.Fits.{CoverFits};
+ghost use Rattle.sk_constr.specs.Fits.{BranchesAreNarrow, ConstraintsFit};
 ghost use Rattle.sk_constr.specs.Keys.{AreConstraints, lines_of_key, keys_at};
 
 use crate::env::operands_at;
@@ -129,7 +131,8 @@ fn copy_covers<D: NumDom>(alloc: Global, covers: &Covers<D>) -> Result<Covers<D>
 }
 
 /// The constraints of a program of the definition and of cover lines: for every key, by point and then by hook, the
-/// lines of its rule. Fails only where memory is refused.
+/// lines of its rule. They fit where the cover lines do, and no branch bone exports more than a tuple has room for. Fails
+/// only where memory is refused.
 pub fn generate<D: NumDom>(
     alloc: Global,
     checked: &Checked,
@@ -137,8 +140,10 @@ pub fn generate<D: NumDom>(
     covers: &Covers<D>,
 ) -> Result<Constraints<D>, NoMemory>
     requires { IsProgramOf checked.now arena.now }
-    ensures { IfOk result (AreConstraints checked.now arena.now covers.now) }
+    ensures made { IfOk result (AreConstraints checked.now arena.now covers.now) }
+    ensures fit { IfOk result (λ list. BranchesAreNarrow checked.now → All (CoverFits checked.now arena.now arena.now.names) covers.now → ConstraintsFit list) }
 {
+    let _sorted = checked.def();
     let covers = copy_covers(alloc, covers)?;
     let keys = all_keys(alloc, checked, arena)?;
     Ok(Constraints {
