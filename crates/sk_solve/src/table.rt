@@ -20,7 +20,7 @@ fn inputs_of<D: NumDom>(solved: &Solved<D>) -> Option<&AbsTuple<D>>
 }
 
 /// An equal output.
-fn copy_outs<D: NumDom>(
+pub(crate) fn copy_outs<D: NumDom>(
     alloc: Global,
     outs: &Option<AbsTuple<D>>,
 ) -> Result<Option<AbsTuple<D>>, NoMemory>
