@@ -1,25 +1,26 @@
-mod Relations
-mod Environments
-mod Bones
-mod Sound
-mod Agreement
-mod Bounds
-mod WalkOrder
-mod Walker
-mod Proper
-mod Verdicts
-mod FilterSorts
-mod EnvSorts
-mod NewFlows
-mod Fitting
-mod RulesFit
-mod ProperEnvs
-mod BranchEnds
-mod TableSteps
-mod WalkFrom
-mod Starts
+pub mod Relations
+pub mod Environments
+pub mod Bones
+pub mod Sound
+pub mod Agreement
+pub mod Bounds
+pub mod WalkOrder
+pub mod Walker
+pub mod Proper
+pub mod Verdicts
+pub mod FilterSorts
+pub mod EnvSorts
+pub mod NewFlows
+pub mod Fitting
+pub mod RulesFit
+pub mod ProperEnvs
+pub mod BranchEnds
+pub mod TableSteps
+pub mod WalkFrom
+pub mod Starts
 pub mod Settled
-mod CollectSteps
-mod CollectFrom
-mod OwnOutputs
-mod RulesFound
+pub mod CollectSteps
+pub mod CollectFrom
+pub mod OwnOutputs
+pub mod RulesFound
+pub mod KeyIndex

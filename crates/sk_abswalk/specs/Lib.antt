@@ -11,3 +11,4 @@ pub mod TableReader
 pub mod RuleAt
 pub mod Keys
 pub mod Collect
+pub mod Index

@@ -42,7 +42,7 @@ pub(crate) fn tuples_fit<D: NumDom>(a: &AbsTuple<D>, b: &AbsTuple<D>) -> bool
 }
 
 /// Whether a triple is of the call's hook and point, and its inputs lie above the call's.
-fn is_above<D: NumDom>(call: &Cover<D>, triple: &Triple<D>) -> bool
+pub(crate) fn is_above<D: NumDom>(call: &Cover<D>, triple: &Triple<D>) -> bool
     ensures { result ≡ is_above D.domain call.now triple.now }
 {
     triple.hook.0 == call.hook.0 && (triple.point == call.point && call.ins.leq(&triple.ins))
@@ -82,7 +82,7 @@ fn meet<D: NumDom>(
 }
 
 /// What was met before, if anything was, met with an outcome.
-fn meet_more<D: NumDom>(
+pub(crate) fn meet_more<D: NumDom>(
     alloc: Global,
     met: &Option<Option<AbsTuple<D>>>,
     outs: &Option<AbsTuple<D>>,

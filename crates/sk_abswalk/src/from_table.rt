@@ -3,6 +3,7 @@ ghost use Rattle.std.specs.Prelude.{◌≡◌, ◌<◌, length, map, IfOk};
 ghost use Rattle.sk_def.specs.Layout.{AreBelow};
 ghost use Rattle.sk_def.specs.Sorts.{after_merge};
 
+use crate::indexed::IndexedTable;
 use crate::steps::{answered, filtered, forked, merged};
 use crate::stop::Stop;
 use crate::world::World;
@@ -10,7 +11,6 @@ use sk_base::Seq;
 use sk_def::{Filter, HookId, SortId, Target, VarList};
 use sk_lattice::NumDom;
 use sk_sort::{Checked, define_exports, define_flows, define_results};
-use sk_table::Table;
 use sk_walk::Interp;
 use std::alloc::Global;
 
@@ -22,7 +22,7 @@ pub struct FromTable<'a, D: NumDom> {
     pub(crate) own: SortId,
     pub(crate) names: usize,
     pub(crate) point: u16,
-    pub(crate) table: &'a Table<D>,
+    pub(crate) table: &'a IndexedTable<'a, D>,
 }
 
 impl<'a, D: NumDom> Interp for FromTable<'a, D> {

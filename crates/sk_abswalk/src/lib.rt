@@ -10,6 +10,7 @@ mod collect_walk;
 mod count;
 mod env;
 mod from_table;
+mod indexed;
 mod key_outputs;
 mod laws;
 mod steps;
@@ -23,6 +24,7 @@ pub use collect::Collect;
 pub use collect_walk::{walk_by_key, walk_collect};
 pub use count::Steps;
 pub use from_table::FromTable;
+pub use indexed::IndexedTable;
 pub use key_outputs::KeyOutputs;
 pub use laws::{
     accepted_tables_are_sound, answers_of_tables_fit, bounds_do_not_matter, walker_walks,
@@ -30,7 +32,7 @@ pub use laws::{
 };
 pub use stop::{FromStop, Stop};
 pub use verdict::{Verdict, Why, verdicts_are_right};
-pub use walk::walk_from;
+pub use walk::{walk_from, walk_indexed};
 pub use world::World;
 
 #[cfg(test)]

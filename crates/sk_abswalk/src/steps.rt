@@ -7,15 +7,15 @@ ghost use Rattle.sk_abswalk.specs.Tables.{table_answer};
 ghost use Rattle.sk_abswalk.specs.FromTable.{Gives};
 ghost use Rattle.sk_abswalk.specs.Branches.{env_of};
 
-use crate::answer::table_answer;
 use crate::branches::{all_gone, gain_joined};
 use crate::env::{AbsEnv, gain};
+use crate::indexed::IndexedTable;
 use crate::stop::Stop;
 use crate::world::World;
 use sk_absfilter::abs_apply;
 use sk_def::{Filter, HookId, Target, Var};
 use sk_lattice::NumDom;
-use sk_table::{Cover, Table};
+use sk_table::Cover;
 use std::alloc::Global;
 
 /// A filter bone.
@@ -45,7 +45,7 @@ pub(crate) fn filtered<D: NumDom>(
 /// A hook bone in a rule at this point, answered from a table.
 pub(crate) fn answered<D: NumDom>(
     alloc: Global,
-    table: &Table<D>,
+    table: &IndexedTable<D>,
     point: u16,
     hook: HookId,
     target: Target,
@@ -66,7 +66,7 @@ pub(crate) fn answered<D: NumDom>(
         return Err(Stop::Ill);
     };
     let call = Cover { hook, point, ins };
-    let Some(answer) = table_answer(alloc, table, &call)? else {
+    let Some(answer) = table.answer(alloc, &call)? else {
         return Err(Stop::Uncovered {
             hook,
             point,

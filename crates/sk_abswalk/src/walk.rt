@@ -12,6 +12,7 @@ ghost use Rattle.sk_abswalk.specs.RuleAt.{RuleFor, start_at};
 
 use crate::env::{AbsEnv, gain};
 use crate::from_table::FromTable;
+use crate::indexed::IndexedTable;
 use crate::stop::{FromStop, Stop};
 use crate::world::World;
 use sk_base::NoMemory;
@@ -124,7 +125,7 @@ fn walk_call<D: NumDom>(
     alloc: Global,
     checked: &Checked,
     arena: &Arena,
-    table: &Table<D>,
+    table: &IndexedTable<D>,
     hook: HookId,
     point: u16,
     ins: &AbsTuple<D>,
@@ -152,13 +153,13 @@ fn walk_call<D: NumDom>(
     walk_rule(alloc, &mut reading, arena, rule, called, con, hook, ins)
 }
 
-/// The outputs of a call, where the calls of its rule are answered from a table: exactly those of the abstract walk, none
+/// As `walk_from`, from a table that was indexed once for many walks: exactly the outputs of the abstract walk, none
 /// where nothing comes out. `Uncovered` comes exactly at the first call, in text order, that no triple lies above.
-pub fn walk_from<D: NumDom>(
+pub fn walk_indexed<D: NumDom>(
     alloc: Global,
     checked: &Checked,
     arena: &Arena,
-    table: &Table<D>,
+    table: &IndexedTable<D>,
     hook: HookId,
     point: u16,
     ins: &AbsTuple<D>,
@@ -178,4 +179,28 @@ pub fn walk_from<D: NumDom>(
         Err(Stop::NoMemory) => Err(FromStop::NoMemory),
         Err(Stop::Ill) => unreachable!(),
     }
+}
+
+/// The outputs of a call, where the calls of its rule are answered from a table: exactly those of the abstract walk, none
+/// where nothing comes out. `Uncovered` comes exactly at the first call, in text order, that no triple lies above.
+pub fn walk_from<D: NumDom>(
+    alloc: Global,
+    checked: &Checked,
+    arena: &Arena,
+    table: &Table<D>,
+    hook: HookId,
+    point: u16,
+    ins: &AbsTuple<D>,
+) -> Result<Option<AbsTuple<D>>, FromStop<D>>
+    requires program { IsProgramOf checked.now arena.now }
+    requires call { CallFits (setting_of checked.now arena.now) (record { hook = hook; point = point; ins = ins.now }) }
+    requires table { TableFits (setting_of checked.now arena.now) table.now }
+    ensures { GivesFrom (abstract_outputs D.domain (table_answer D.domain table.now) (setting_of checked.now arena.now)
+        (record { hook = hook; point = point; ins = ins.now })) result }
+{
+    let hooks = checked.def().hooks.len();
+    let Ok(indexed) = IndexedTable::of(alloc, hooks, arena.count(), table) else {
+        return Err(FromStop::NoMemory);
+    };
+    walk_indexed(alloc, checked, arena, &indexed, hook, point, ins)
 }

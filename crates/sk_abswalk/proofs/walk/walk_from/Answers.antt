@@ -1,8 +1,13 @@
-use Rattle.sk_lattice.proofs.SortLemmas.{shape_laws}
-use Rattle.sk_abswalk.proofs.RulesFit.{never_ill}
+use Rattle.std.proofs.Common.{List, subst}
+use Rattle.sk_table.specs.declared.triple.Triple.{Triple}
+use Rattle.sk_abswalk.specs.Fits.{setting_of}
+use Rattle.sk_abswalk.specs.FromTable.{GivesFrom}
+use Rattle.sk_abswalk.specs.Tables.{table_answer}
+use Rattle.sk_abswalk.specs.Walk.{abstract_outputs}
 use Rattle.sk_abswalk.proofs.walk.walk_from.Goals as goal
 
-pub unreachable-requires : goal.unreachable-requires
-unreachable-requires g c =
-    never_ill _ g.D.NumDom.domain (shape_laws _ g.D.NumDom.domain) c.args.checked.now c.args.arena.now c.def-def.ensures.sorted.well_sorted c.requires.program c.args.table.now c.requires.table _ c.requires.call
-    c.in-Err-Ill.field-0 c.in-Err-Ill.field-0-is (rw c.in-Err-Ill.is at c.walk_call.ensures)
+pub returns : goal.returns
+returns g c =
+    let d = g.D.NumDom.domain in
+    subst (λ (table : List (Triple _)). GivesFrom (abstract_outputs d (table_answer d table) (setting_of c.args.checked.now c.args.arena.now) (record { hook = c.args.hook; point = c.args.point; ins = c.args.ins.now })) c.walk_indexed.result)
+    c.in-Ok.ensures c.walk_indexed.ensures
