@@ -10,7 +10,8 @@ ghost use Rattle.sk_abswalk.specs.Verdict.{first_failing, verdict_of};
 ghost use Rattle.sk_verify.specs.Judged.{IsFirst, IsJudged};
 
 use sk_abswalk::{
-    FromStop, Verdict, Why, accepted_tables_are_sound, is_covered, verdicts_are_right, walk_from,
+    FromStop, IndexedTable, Verdict, Why, accepted_tables_are_sound, is_covered,
+    verdicts_are_right, walk_indexed,
 };
 use sk_base::NoMemory;
 use sk_lattice::{AbsTuple, NumDom};
@@ -35,19 +36,19 @@ fn judge<D: NumDom>(
     alloc: Global,
     checked: &Checked,
     arena: &Arena,
-    table: &Table<D>,
+    indexed: &IndexedTable<D>,
     triple: &Triple<D>,
 ) -> Result<Option<Why<D>>, NoMemory>
     requires program { IsProgramOf checked.now arena.now }
-    requires table { TableFits (setting_of checked.now arena.now) table.now }
+    requires table { TableFits (setting_of checked.now arena.now) indexed.now }
     requires triple { CallFits (setting_of checked.now arena.now) (call_of triple.now) }
-    ensures { IfOk result (λ why. IsJudged D.domain (setting_of checked.now arena.now) table.now triple.now why) }
+    ensures { IfOk result (λ why. IsJudged D.domain (setting_of checked.now arena.now) indexed.now triple.now why) }
 {
-    match walk_from(
+    match walk_indexed(
         alloc,
         checked,
         arena,
-        table,
+        indexed,
         triple.hook,
         triple.point,
         &triple.ins,
@@ -76,8 +77,9 @@ fn first_unjustified<D: NumDom>(
     requires table { TableFits (setting_of checked.now arena.now) table.now }
     ensures { IfOk result (λ found. IsFirst D.domain (setting_of checked.now arena.now) table.now found) }
 {
+    let indexed = IndexedTable::of(alloc, checked.def().hooks.len(), arena.count(), table)?;
     for (place, triple) in table.as_slice().iter().enumerate() {
-        if let Some(why) = judge(alloc, checked, arena, table, triple)? {
+        if let Some(why) = judge(alloc, checked, arena, &indexed, triple)? {
             return Ok(Some((place + 1, why)));
         }
     }
