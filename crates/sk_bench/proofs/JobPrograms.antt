@@ -14,7 +14,7 @@ cons_tail : {A : Type 0} (x y : A) (xs ys : List A) → x ∷ xs ≡ y ∷ ys �
 cons_tail x y xs ys e = cc
 
 -- what a function gives everywhere is what it gives where it gives something
-filter_map_some : {A B : Type 0} (f : A → Option B) (xs : List A) (ys : List B) → map Some ys ≡ map f xs → ys ≡ filter_map f xs
+pub filter_map_some : {A B : Type 0} (f : A → Option B) (xs : List A) (ys : List B) → map Some ys ≡ map f xs → ys ≡ filter_map f xs
 filter_map_some f [] [] e = refl
 filter_map_some f [] (y ∷ ys) e = absurd (cc)
 filter_map_some f (x ∷ xs) [] e = absurd (cc)

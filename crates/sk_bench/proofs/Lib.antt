@@ -1,14 +1,15 @@
 pub mod Answered
 pub mod Calls
-pub mod FiveWords
+pub mod CommandWords
 pub mod JobPrograms
 pub mod Judged
 pub mod Kept
 pub mod Numbers
 pub mod Padded
 pub mod Placed
-pub mod Points
 pub mod Plans
+pub mod Points
 pub mod Printed
 pub mod Promises
+pub mod Surveyed
 pub mod WholeJobs

@@ -1,6 +1,5 @@
 -- The plan of each command.
-use Rattle.std.specs.Prelude.{ℕ, List, [], ◌++◌, Option, Some, None, Result, Ok, Err, length, codes, decimal, option_map, slice_get, unwrap_or}
-use Rattle.sk_base.specs.Place.{place_at}
+use Rattle.std.specs.Prelude.{ℕ, List, [], ◌∷◌, ◌++◌, Option, Some, None, Result, Ok, Err, length, codes, decimal, option_map, slice_get, unwrap_or}
 use Rattle.sk_def.specs.declared.def.Def.{Def}
 use Rattle.sk_lattice.specs.Domain.{Domain}
 use Rattle.sk_lattice.specs.DomainTexts.{DomainTexts}
@@ -13,18 +12,21 @@ use Rattle.sk_interval.specs.Intervals.{interval_domain}
 use Rattle.sk_interval.specs.Texts.{interval_texts}
 use Rattle.sk_bench.specs.Verdicts.{Trial}
 use Rattle.sk_bench.specs.declared.kinds.Command.{Command}
-use Rattle.sk_bench.specs.declared.kinds.Command.TheVariants.{Check, Run, Verify}
+use Rattle.sk_bench.specs.declared.kinds.Command.TheVariants.{Check, Run, Verify, Constrain}
+use Rattle.sk_bench.specs.declared.kinds.JobCommand.{JobCommand}
+use Rattle.sk_bench.specs.declared.kinds.JobCommand.TheVariants as command
 use Rattle.sk_bench.specs.declared.kinds.DomainWord.{DomainWord}
 use Rattle.sk_bench.specs.declared.kinds.DomainWord.TheVariants.{Sign, Interval}
 use Rattle.sk_bench.specs.declared.status.Ending.{Ending}
 use Rattle.sk_bench.specs.declared.status.Ending.TheVariants.{Done, Definition, Job, Table}
-use Rattle.sk_bench.specs.Asked.{results, sign_verdict, interval_verdict}
-use Rattle.sk_bench.specs.Accepted.{accepted_definition, accepted_job, accepted_table, program_of, refused_at}
+use Rattle.sk_bench.specs.Asked.{Asked, results, sign_verdict, interval_verdict, sign_constraints, interval_constraints}
+use Rattle.sk_bench.specs.Accepted.{accepted_definition, accepted_job, accepted_table, program_of}
 use Rattle.sk_bench.specs.declared.job.Start.{Start}
 use Rattle.sk_bench.specs.Jobs.{ReadJob}
 use Rattle.sk_bench.specs.Outcomes.{Question}
 use Rattle.sk_bench.specs.Plan.{Plan, Write, Read, WriteAnswer}
-use Rattle.sk_bench.specs.Refused.{Refused, refused_line}
+use Rattle.sk_bench.specs.Refused.{Refused, refused_line, missing}
+use Rattle.sk_bench.specs.Surveys.{Survey}
 use Rattle.sk_bench.specs.Words.{command_of}
 
 -- a word by its place
@@ -53,7 +55,7 @@ check_on text = on_definition (λ d. Write Done (good_line d)) text
 -- goes on with the call of a job's start line, or ends with the line that the job has none, at the end of its text
 abbrev pub on_start : (Start → Plan) → List ℕ → Option Start → Plan
 on_start next text (Some start) = next start
-on_start next text None = Write Job (refused_line (codes "job") (refused_at (codes "NoStart") (place_at text (length text))))
+on_start next text None = Write Job (refused_line (codes "job") (missing (codes "NoStart") text))
 
 -- what is asked of a job's start line, to a depth
 abbrev pub question : Def → ℕ → ReadJob → Start → Question
@@ -65,14 +67,28 @@ question d depth job start = record {
   depth = depth;
 }
 
--- what `run` does with the text of its job
-abbrev pub run_job : Def → ℕ → List ℕ → Plan
-run_job d depth text =
-    on_accepted Job (codes "job") (λ job. on_start (λ start. WriteAnswer (results (question d depth job start))) text job.start) (accepted_job d text)
+-- what is asked of a job's cover lines
+abbrev pub survey : {D : Type 0} → Def → ReadJob → List (Cover D) → Survey D
+survey d job covers = record { def = d; job = job; covers = covers }
 
--- what `run` does with the text of its definition: it reads the job of this name
-abbrev pub run_on : List ℕ → ℕ → List ℕ → Plan
-run_on job depth text = on_definition (λ d. Read job LIMIT (run_job d depth)) text
+-- asks with a job's cover lines of a domain, or ends with the line that the job has none, at the end of its text
+abbrev pub on_covers : {D : Type 0} → (Survey D → Asked) → Def → ReadJob → List ℕ → List (Cover D) → Plan
+on_covers asks d job text [] = Write Job (refused_line (codes "job") (missing (codes "NoCover") text))
+on_covers asks d job text (line ∷ lines) = WriteAnswer (asks (survey d job (line ∷ lines)))
+
+-- what a command over a definition and a job makes of the job that a text is
+abbrev pub job_plan : JobCommand → Def → List ℕ → ReadJob → Plan
+job_plan (command.Run depth) d text job = on_start (λ start. WriteAnswer (results (question d depth job start))) text job.start
+job_plan (command.Constrain Sign) d text job = on_covers sign_constraints d job text job.sign
+job_plan (command.Constrain Interval) d text job = on_covers interval_constraints d job text job.interval
+
+-- what it does with the text of its job
+abbrev pub job_on : JobCommand → Def → List ℕ → Plan
+job_on command d text = on_accepted Job (codes "job") (job_plan command d text) (accepted_job d text)
+
+-- what it does with the text of its definition: it reads the job of this name
+abbrev pub definition_on : JobCommand → List ℕ → List ℕ → Plan
+definition_on command job text = on_definition (λ d. Read job LIMIT (job_on command d)) text
 
 -- a table over a job, with the job's cover lines of its domain
 abbrev pub trial : {D : Type 0} → Def → ReadJob → List (Cover D) → List (Triple D) → Trial D
@@ -99,7 +115,8 @@ verify_on job table domain text = on_definition (λ d. Read job LIMIT (verify_jo
 -- the plan of a command with these words
 unfoldable pub plan_of : List (List ℕ) → Command → Plan
 plan_of words Check = Read (word_at words 1) LIMIT check_on
-plan_of words (Run depth) = Read (word_at words 1) LIMIT (run_on (word_at words 2) depth)
+plan_of words (Run depth) = Read (word_at words 1) LIMIT (definition_on (command.Run depth) (word_at words 2))
+plan_of words (Constrain domain) = Read (word_at words 1) LIMIT (definition_on (command.Constrain domain) (word_at words 2))
 plan_of words (Verify domain) = Read (word_at words 1) LIMIT (verify_on (word_at words 2) (word_at words 4) domain)
 
 -- the plan that the words ask for, if they are a command

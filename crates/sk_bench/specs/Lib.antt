@@ -12,5 +12,7 @@ pub mod Outcomes
 pub mod Plan
 pub mod Refused
 pub mod Status
+pub mod Surveying
+pub mod Surveys
 pub mod Verdicts
 pub mod Words

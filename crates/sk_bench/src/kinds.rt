@@ -19,4 +19,13 @@ pub enum Command {
     },
     /// `verify DEF JOB DOMAIN TABLE`: whether the table justifies all its triples and covers the job's cover lines.
     Verify(DomainWord),
+    /// `constrain DEF JOB DOMAIN`: the constraints of the program and of the job's cover lines of a domain.
+    Constrain(DomainWord),
+}
+
+/// What is made of a definition and a job alone.
+#[derive(Clone, Copy, Debug, PartialEq, Eq)]
+pub(crate) enum JobCommand {
+    Run { depth: u32 },
+    Constrain(DomainWord),
 }

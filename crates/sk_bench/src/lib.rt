@@ -5,8 +5,10 @@
 mod accept;
 mod check;
 mod codes;
+mod constrain_command;
 mod job;
 mod job_calls;
+mod job_command;
 mod job_covers;
 mod job_lines;
 mod job_marks;

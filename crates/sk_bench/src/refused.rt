@@ -1,12 +1,12 @@
 //! Refused texts, and the line that says so.
-ghost use Rattle.std.specs.Prelude.{◌≡◌, ◌++◌, decimal, OnOk};
+ghost use Rattle.std.specs.Prelude.{◌≡◌, ◌++◌, ◌-◌, ◌<◌, ◌^◌, decimal, length, OnOk};
 ghost use Rattle.sk_bench.specs.Following.{Prepares};
 ghost use Rattle.sk_bench.specs.Plan.{Write};
-ghost use Rattle.sk_bench.specs.Refused.{refused_of, refused_line};
+ghost use Rattle.sk_bench.specs.Refused.{refused_of, refused_line, missing};
 
 use crate::status::{Ending, Output, Stop};
 use itoa::Buffer;
-use sk_base::{NoMemory, Place};
+use sk_base::{NoMemory, Place, place_of};
 use sk_value::put_bytes;
 use std::alloc::Global;
 
@@ -30,6 +30,17 @@ pub(crate) fn put_count(out: &mut Vec<u8>, count: usize) -> Result<(), NoMemory>
 {
     let mut buffer = Buffer::new();
     put_bytes(out, buffer.format(count).as_bytes())
+}
+
+/// The refusal of a job that lacks a line, at the end of its text.
+pub(crate) fn missing(code: &'static str, text: &[u8]) -> Refusal
+    requires { length text.now < 2 ^ 32 - 1 }
+    ensures { refused_of result ≡ missing code.now text.now }
+{
+    Refusal {
+        code,
+        place: place_of(text, text.len()),
+    }
 }
 
 /// The line for a refused text of a kind, as the end of a command.

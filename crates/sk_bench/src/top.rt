@@ -10,7 +10,8 @@ ghost use Rattle.sk_bench.specs.Following.{Follows};
 ghost use Rattle.sk_bench.specs.Headline.{IsOneOf, Writes, WritesPrefix, EndsAsTold, StopsAsTold, IsComplete, IsCompleteTooLong};
 
 use crate::check::check;
-use crate::run::run;
+use crate::job_command::on_job;
+use crate::kinds::JobCommand;
 use crate::status::{Output, Stop};
 use crate::verify_command::verify;
 use crate::{Command, Status, command};
@@ -79,7 +80,20 @@ fn produce<F: Files>(
 {
     match command {
         Command::Check => check(alloc, files, word(words, 1)),
-        Command::Run { depth } => run(alloc, files, word(words, 1), word(words, 2), depth),
+        Command::Run { depth } => on_job(
+            alloc,
+            files,
+            JobCommand::Run { depth },
+            word(words, 1),
+            word(words, 2),
+        ),
+        Command::Constrain(domain) => on_job(
+            alloc,
+            files,
+            JobCommand::Constrain(domain),
+            word(words, 1),
+            word(words, 2),
+        ),
         Command::Verify(domain) => verify(
             alloc,
             files,

@@ -2,8 +2,8 @@
 ghost use Rattle.std.specs.Prelude.{◌≡◌, map, option_map, string_bytes};
 ghost use Rattle.std.specs.Char.{is_ascii_digit};
 ghost use Rattle.std.specs.List.{list_all};
-ghost use Rattle.sk_bench.specs.declared.kinds.Command.TheVariants.{Run, Verify};
-ghost use Rattle.sk_bench.specs.Words.{is_number, number_up_to, domain_of, command_of};
+ghost use Rattle.sk_bench.specs.declared.kinds.Command.TheVariants.{Run, Verify, Constrain};
+ghost use Rattle.sk_bench.specs.Words.{is_number, number_up_to, domain_of, job_command_of, command_of};
 
 use crate::{Command, DomainWord};
 
@@ -11,16 +11,36 @@ use crate::{Command, DomainWord};
 const MOST_DEPTH: u32 = 64;
 
 /// The command that the words are, none where they fit no row: `check DEF`; `run DEF JOB N`, where N has 1 to 10 digits and is
-/// at most 64; or `verify DEF JOB DOMAIN TABLE`, where DOMAIN is `sign` or `interval`.
+/// at most 64; `constrain DEF JOB DOMAIN`; or `verify DEF JOB DOMAIN TABLE`. DOMAIN is `sign` or `interval`.
 pub fn command(words: &[String]) -> Option<Command>
     ensures { result ≡ command_of (map string_bytes words.now) }
 {
     match words {
         [word, _] if word.as_str() == "check" => Some(Command::Check),
-        [word, _, _, depth] if word.as_str() == "run" => run(depth.as_str()),
+        [word, _, _, last] => on_job(word.as_str(), last.as_str()),
         [word, _, _, domain, _] if word.as_str() == "verify" => verify(domain.as_str()),
         _ => None,
     }
+}
+
+/// The command of this word over a definition and a job, with the last word of its line.
+fn on_job(word: &str, last: &str) -> Option<Command>
+    ensures { result ≡ job_command_of word.now last.now }
+{
+    if word == "run" {
+        return run(last);
+    }
+    if word == "constrain" {
+        return constrain(last);
+    }
+    None
+}
+
+/// The command `constrain` over the domain of this word.
+fn constrain(domain: &str) -> Option<Command>
+    ensures { result ≡ option_map Constrain (domain_of domain.now) }
+{
+    domain_named(domain).map(|domain| Command::Constrain(domain))
 }
 
 /// The command `verify` over the domain of this word.

@@ -1,7 +1,7 @@
 -- The words of a command, one by one.
 use Rattle.std.proofs.Common.{◌≡◌, ℕ, ◌<◌, ◌≤◌, true, List, [], ◌∷◌, length, map, get_or, option_map, codes, bytes_eq, refl, arith, subst, sym}
 use Rattle.sk_bench.specs.declared.kinds.Command.TheVariants.{Verify}
-use Rattle.sk_bench.specs.Words.{command_of, domain_of}
+use Rattle.sk_bench.specs.Words.{command_of, domain_of, job_command_of}
 
 -- five words, of which the first is `verify`
 pub verify_words : {S : Type 0} (bytes : S → List ℕ) (words : List S) (first domain : S) → 5 ≤ length words → length words < 6 → first ≡ get_or words 0 first
@@ -15,3 +15,15 @@ verify_words bytes (a ∷ b ∷ c ∷ []) first domain more less is fourth spell
 verify_words bytes (a ∷ b ∷ []) first domain more less is fourth spelled = absurd (omega (arith, more))
 verify_words bytes (a ∷ []) first domain more less is fourth spelled = absurd (omega (arith, more))
 verify_words bytes [] first domain more less is fourth spelled = absurd (omega (arith, more))
+
+-- four words
+pub job_words : {S : Type 0} (bytes : S → List ℕ) (words : List S) (first last : S) → 4 ≤ length words → length words < 5 → first ≡ get_or words 0 first
+    → last ≡ get_or words 3 last → command_of (map bytes words) ≡ job_command_of (bytes first) (bytes last)
+job_words {S} bytes (a ∷ b ∷ c ∷ d ∷ []) first last more less is fourth =
+    subst (λ (s : S). command_of (map bytes (a ∷ b ∷ c ∷ d ∷ [])) ≡ job_command_of (bytes first) (bytes s)) (sym fourth)
+    (subst (λ (s : S). command_of (map bytes (a ∷ b ∷ c ∷ d ∷ [])) ≡ job_command_of (bytes s) (bytes d)) (sym is) refl)
+job_words bytes (a ∷ b ∷ c ∷ d ∷ e ∷ others) first last more less is fourth = absurd (omega (arith, less))
+job_words bytes (a ∷ b ∷ c ∷ []) first last more less is fourth = absurd (omega (arith, more))
+job_words bytes (a ∷ b ∷ []) first last more less is fourth = absurd (omega (arith, more))
+job_words bytes (a ∷ []) first last more less is fourth = absurd (omega (arith, more))
+job_words bytes [] first last more less is fourth = absurd (omega (arith, more))
