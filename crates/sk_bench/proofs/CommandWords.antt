@@ -1,6 +1,6 @@
 -- The words of a command, one by one.
-use Rattle.std.proofs.Common.{◌≡◌, ℕ, ◌<◌, ◌≤◌, true, List, [], ◌∷◌, length, map, get_or, option_map, codes, bytes_eq, refl, arith, subst, sym}
-use Rattle.sk_bench.specs.declared.kinds.Command.TheVariants.{Verify}
+use Rattle.std.proofs.Common.{◌≡◌, ℕ, ◌<◌, ◌≤◌, true, List, [], ◌∷◌, length, map, get_or, Some, option_map, codes, bytes_eq, refl, arith, subst, sym}
+use Rattle.sk_bench.specs.declared.kinds.Command.TheVariants.{Check, Verify}
 use Rattle.sk_bench.specs.Words.{command_of, domain_of, job_command_of}
 
 -- five words, of which the first is `verify`
@@ -27,3 +27,12 @@ job_words bytes (a ∷ b ∷ c ∷ []) first last more less is fourth = absurd (
 job_words bytes (a ∷ b ∷ []) first last more less is fourth = absurd (omega (arith, more))
 job_words bytes (a ∷ []) first last more less is fourth = absurd (omega (arith, more))
 job_words bytes [] first last more less is fourth = absurd (omega (arith, more))
+
+-- two words, of which the first is `check`
+pub check_words : {S : Type 0} (bytes : S → List ℕ) (words : List S) (first : S) → 2 ≤ length words → length words < 3 → first ≡ get_or words 0 first
+    → bytes_eq (bytes first) (codes "check") ≡ true → command_of (map bytes words) ≡ Some Check
+check_words {S} bytes (a ∷ b ∷ []) first more less is spelled =
+    let checks : bytes_eq (bytes a) (codes "check") ≡ true = subst (λ (s : S). bytes_eq (bytes s) (codes "check") ≡ true) is spelled in rw checks refl
+check_words bytes (a ∷ b ∷ c ∷ others) first more less is spelled = absurd (omega (arith, less))
+check_words bytes (a ∷ []) first more less is spelled = absurd (omega (arith, more))
+check_words bytes [] first more less is spelled = absurd (omega (arith, more))

@@ -1,10 +1,17 @@
+pub mod Analysed
 pub mod Answered
+pub mod Bounds
 pub mod Calls
+pub mod CoverCalls
 pub mod CommandWords
 pub mod JobPrograms
 pub mod Judged
 pub mod Kept
+pub mod Leaves
+pub mod Marks
+pub mod Narrow
 pub mod Numbers
+pub mod OneList
 pub mod Padded
 pub mod Placed
 pub mod Plans

@@ -19,6 +19,7 @@ use Rattle.sk_bench.specs.declared.status.Ending.TheVariants.{Done, Job}
 use Rattle.sk_bench.specs.declared.status.Output.{Output}
 use Rattle.sk_bench.specs.declared.status.Stop.{Stop}
 use Rattle.sk_bench.specs.Accepted.{program_of}
+use Rattle.sk_bench.specs.Analysing.{SoundlyAnalyses, AgreeablySolves}
 use Rattle.sk_bench.specs.Asked.{Asked, IsAnswer, Means}
 use Rattle.sk_bench.specs.Asked as asked
 use Rattle.sk_bench.specs.Commands.{job_plan, on_covers, survey}
@@ -57,6 +58,19 @@ pub interval_constraints : (d : Def) (job : ReadJob) (text : List ℕ) (result :
     → Surveys (IsConstraintsText interval_domain interval_texts) d job text job.interval result → Prepares (job_plan (command.Constrain word.Interval) d text job) result
 interval_constraints d job text result h =
     surveyed (IsConstraintsText interval_domain interval_texts) d job text asked.interval_constraints (λ s ending said done is. ((done, is), tt)) job.interval result h
+
+pub sign_analysis : (d : Def) (job : ReadJob) (text : List ℕ) (result : Result Output Stop)
+    → Surveys (SoundlyAnalyses sign_domain true sign_texts) d job text job.sign result → Prepares (job_plan (command.Analyse word.Sign) d text job) result
+sign_analysis d job text result h =
+    surveyed (SoundlyAnalyses sign_domain true sign_texts) d job text asked.sign_analysis (λ s ending said done is. ((done, is.0), is.1)) job.sign result h
+
+pub interval_analysis : (d : Def) (job : ReadJob) (text : List ℕ) (result : Result Output Stop)
+    → Surveys (SoundlyAnalyses interval_domain false interval_texts) d job text job.interval result → Prepares (job_plan (command.Analyse word.Interval) d text job) result
+interval_analysis d job text result h =
+    surveyed (SoundlyAnalyses interval_domain false interval_texts) d job text asked.interval_analysis (λ s ending said done is. ((done, is.0), is.1)) job.interval result h
+
+pub solution : (d : Def) (job : ReadJob) (text : List ℕ) (result : Result Output Stop) → Surveys AgreeablySolves d job text job.sign result → Prepares (job_plan command.Solve d text job) result
+solution d job text result h = surveyed AgreeablySolves d job text asked.solution (λ s ending said done is. ((done, is.0), is.1)) job.sign result h
 
 -- constraints over a program are those over its job
 pub constraints_in : {D : Type 0} (d : Def) (program : Program) (job : ReadJob) (covers : List (Cover D)) (list : Constraints D) → IsProgramOf d program → program.nodes ≡ job.nodes

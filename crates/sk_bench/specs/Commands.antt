@@ -12,14 +12,14 @@ use Rattle.sk_interval.specs.Intervals.{interval_domain}
 use Rattle.sk_interval.specs.Texts.{interval_texts}
 use Rattle.sk_bench.specs.Verdicts.{Trial}
 use Rattle.sk_bench.specs.declared.kinds.Command.{Command}
-use Rattle.sk_bench.specs.declared.kinds.Command.TheVariants.{Check, Run, Verify, Constrain}
+use Rattle.sk_bench.specs.declared.kinds.Command.TheVariants.{Check, Run, Verify, Constrain, Analyse, Solve}
 use Rattle.sk_bench.specs.declared.kinds.JobCommand.{JobCommand}
 use Rattle.sk_bench.specs.declared.kinds.JobCommand.TheVariants as command
 use Rattle.sk_bench.specs.declared.kinds.DomainWord.{DomainWord}
 use Rattle.sk_bench.specs.declared.kinds.DomainWord.TheVariants.{Sign, Interval}
 use Rattle.sk_bench.specs.declared.status.Ending.{Ending}
 use Rattle.sk_bench.specs.declared.status.Ending.TheVariants.{Done, Definition, Job, Table}
-use Rattle.sk_bench.specs.Asked.{Asked, results, sign_verdict, interval_verdict, sign_constraints, interval_constraints}
+use Rattle.sk_bench.specs.Asked.{Asked, results, sign_verdict, interval_verdict, sign_constraints, interval_constraints, sign_analysis, interval_analysis, solution}
 use Rattle.sk_bench.specs.Accepted.{accepted_definition, accepted_job, accepted_table, program_of}
 use Rattle.sk_bench.specs.declared.job.Start.{Start}
 use Rattle.sk_bench.specs.Jobs.{ReadJob}
@@ -81,6 +81,9 @@ abbrev pub job_plan : JobCommand → Def → List ℕ → ReadJob → Plan
 job_plan (command.Run depth) d text job = on_start (λ start. WriteAnswer (results (question d depth job start))) text job.start
 job_plan (command.Constrain Sign) d text job = on_covers sign_constraints d job text job.sign
 job_plan (command.Constrain Interval) d text job = on_covers interval_constraints d job text job.interval
+job_plan (command.Analyse Sign) d text job = on_covers sign_analysis d job text job.sign
+job_plan (command.Analyse Interval) d text job = on_covers interval_analysis d job text job.interval
+job_plan command.Solve d text job = on_covers solution d job text job.sign
 
 -- what it does with the text of its job
 abbrev pub job_on : JobCommand → Def → List ℕ → Plan
@@ -117,6 +120,8 @@ unfoldable pub plan_of : List (List ℕ) → Command → Plan
 plan_of words Check = Read (word_at words 1) LIMIT check_on
 plan_of words (Run depth) = Read (word_at words 1) LIMIT (definition_on (command.Run depth) (word_at words 2))
 plan_of words (Constrain domain) = Read (word_at words 1) LIMIT (definition_on (command.Constrain domain) (word_at words 2))
+plan_of words (Analyse domain) = Read (word_at words 1) LIMIT (definition_on (command.Analyse domain) (word_at words 2))
+plan_of words Solve = Read (word_at words 1) LIMIT (definition_on command.Solve (word_at words 2))
 plan_of words (Verify domain) = Read (word_at words 1) LIMIT (verify_on (word_at words 2) (word_at words 4) domain)
 
 -- the plan that the words ask for, if they are a command

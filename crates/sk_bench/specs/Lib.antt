@@ -1,4 +1,5 @@
 pub mod Accepted
+pub mod Analysing
 pub mod Asked
 pub mod Codes
 pub mod Commands
@@ -10,6 +11,7 @@ pub mod Jobs
 pub mod Judging
 pub mod Outcomes
 pub mod Plan
+pub mod Ranks
 pub mod Refused
 pub mod Status
 pub mod Surveying

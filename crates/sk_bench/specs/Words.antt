@@ -5,7 +5,7 @@ use Rattle.std.specs.List.{list_all}
 use Rattle.std.specs.Str.{bytes_eq}
 use Rattle.std.specs.Str.Parse.{digits_value}
 use Rattle.sk_bench.specs.declared.kinds.Command.{Command}
-use Rattle.sk_bench.specs.declared.kinds.Command.TheVariants.{Check, Run, Verify, Constrain}
+use Rattle.sk_bench.specs.declared.kinds.Command.TheVariants.{Check, Run, Verify, Constrain, Analyse, Solve}
 use Rattle.sk_bench.specs.declared.kinds.DomainWord.{DomainWord}
 use Rattle.sk_bench.specs.declared.kinds.DomainWord.TheVariants.{Sign, Interval}
 
@@ -22,12 +22,14 @@ abbrev pub domain_of : List ℕ → Option DomainWord
 domain_of word =
     if bytes_eq word (codes "sign") then Some Sign else (if bytes_eq word (codes "interval") then Some Interval else None)
 
--- the command of this word over a definition and a job, with the last word of its line: `run DEF JOB N` or
--- `constrain DEF JOB DOMAIN`
+-- the command of this word over a definition and a job, with the last word of its line: `run DEF JOB N`,
+-- `constrain DEF JOB DOMAIN`, `analyse DEF JOB DOMAIN` or `solve DEF JOB sign`
 abbrev pub job_command_of : List ℕ → List ℕ → Option Command
 job_command_of word last =
     if bytes_eq word (codes "run") then option_map Run (number_up_to 64 last)
-    else (if bytes_eq word (codes "constrain") then option_map Constrain (domain_of last) else None)
+    else (if bytes_eq word (codes "constrain") then option_map Constrain (domain_of last)
+    else (if bytes_eq word (codes "analyse") then option_map Analyse (domain_of last)
+    else (if bytes_eq word (codes "solve") && bytes_eq last (codes "sign") then Some Solve else None)))
 
 -- the command that the words are: `check DEF`, one over a definition and a job, or `verify DEF JOB DOMAIN TABLE`
 abbrev pub command_of : List (List ℕ) → Option Command

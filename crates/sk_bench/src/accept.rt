@@ -6,10 +6,12 @@ ghost use Rattle.sk_def.specs.Fits.{DefinitionFits};
 ghost use Rattle.sk_deftext.specs.Faults.{refusal_of as read_fault};
 ghost use Rattle.sk_deftext.specs.Places.{PlacesFit};
 ghost use Rattle.sk_sort.specs.Definition.{first_fault};
+ghost use Rattle.sk_constr.specs.Fits.{BranchesAreNarrow};
 ghost use Rattle.sk_term.specs.Program.{IsProgramOf};
 ghost use Rattle.sk_table.specs.Fits.{TripleFits};
 ghost use Rattle.sk_bench.specs.Accepted.{accepted_definition, accepted_job, accepted_table, program_of, read_refusal, unless_fault, FaultIsPlaced};
 ghost use Rattle.sk_bench.specs.JobText.{seen};
+ghost use Rattle.sk_bench.specs.Jobs.{CallsFit};
 ghost use Rattle.sk_bench.specs.Refused.{refusal_of, refused_of};
 
 use crate::codes::{job_code, lex_code, sort_code, table_code};
@@ -30,10 +32,11 @@ pub(crate) const LIMIT: usize = 4_194_304;
 pub(crate) const TABLE_LIMIT: usize = 16_777_216;
 
 /// Reads a definition and checks its sorts.
-#[tactic(auto, unfolding(crate::specs::Accepted::accepted_definition))]
+#[tactic(auto, unfolding(crate::specs::Accepted::accepted_definition), using(crate::proofs::Narrow::branches_are_narrow))]
 pub(crate) fn accept_definition(alloc: Global, text: &[u8]) -> Result<Checked, Unaccepted>
     requires { length text.now < 2 ^ 32 - 1 }
-    ensures { Gives (λ checked. checked) refusal_of result (accepted_definition text.now) }
+    ensures gives { Gives (λ checked. checked) refusal_of result (accepted_definition text.now) }
+    ensures narrow { IfOk result (λ checked. BranchesAreNarrow checked) }
 {
     match read_def(alloc, text) {
         Ok(source) => check_source(alloc, source),
@@ -46,7 +49,8 @@ pub(crate) fn accept_definition(alloc: Global, text: &[u8]) -> Result<Checked, U
 fn check_source(alloc: Global, source: Source) -> Result<Checked, Unaccepted>
     requires fits { DefinitionFits source.def }
     requires placed { PlacesFit source }
-    ensures { Gives (λ checked. checked) refusal_of result (unless_fault source (first_fault source.def)) }
+    ensures gives { Gives (λ checked. checked) refusal_of result (unless_fault source (first_fault source.def)) }
+    ensures same { IfOk result (λ checked. checked ≡ source.def) }
 {
     let Source { def, places } = source;
     match check_sorts(alloc, def) {
@@ -89,6 +93,7 @@ pub(crate) fn accept_job(alloc: Global, def: &Def, text: &[u8]) -> Result<Job, U
     ensures gives { Gives seen refusal_of result (accepted_job def.now text.now) }
     ensures program { IfOk result (λ job. IsProgramOf def.now job.arena) }
     ensures over { IfOk result (λ job. job.arena.names ≡ length job.names) }
+    ensures calls { IfOk result (λ job. CallsFit def.now (seen job)) }
 {
     match read_job(alloc, def, text) {
         Ok(job) => Ok(job),

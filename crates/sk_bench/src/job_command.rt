@@ -2,6 +2,8 @@
 ghost use Rattle.std.specs.Prelude.{◌≡◌, ◌≤◌, length};
 ghost use Rattle.sk_base.specs.Causes.{NeverFalls};
 ghost use Rattle.sk_term.specs.Program.{IsProgramOf};
+ghost use Rattle.sk_constr.specs.Fits.{BranchesAreNarrow};
+ghost use Rattle.sk_bench.specs.Jobs.{CallsFit};
 ghost use Rattle.sk_bench.specs.Plan.{Read};
 ghost use Rattle.sk_bench.specs.Commands.{definition_on, job_on, job_plan};
 ghost use Rattle.sk_bench.specs.JobText.{seen};
@@ -9,10 +11,12 @@ ghost use Rattle.sk_bench.specs.Following.{Follows, Prepares};
 
 use crate::Job;
 use crate::accept::{LIMIT, accept_definition, accept_job};
+use crate::analyse_command::analyse;
 use crate::constrain_command::constrain;
 use crate::kinds::JobCommand;
 use crate::refused::{Unaccepted, refuse};
 use crate::run::run;
+use crate::solve_command::solve;
 use crate::status::{Ending, Output, Stop};
 use sk_base::{Files, read_file};
 use sk_sort::Checked;
@@ -64,6 +68,7 @@ fn read_job_of<F: Files>(
     checked: &Checked,
     job: &str,
 ) -> Result<Output, Stop>
+    requires { BranchesAreNarrow checked.now }
     ensures follows { Follows (F.folder files.old) (F.selection files.old) (F.selection files.new) (F.faults files.old) (F.faults files.new) (Read job.now LIMIT (job_on command checked.now)) result }
     ensures folder { F.folder files.new ≡ F.folder files.old }
     ensures count { NeverFalls (F.faults files.old) (F.faults files.new) }
@@ -79,7 +84,8 @@ fn on_text(
     checked: &Checked,
     text: &[u8],
 ) -> Result<Output, Stop>
-    requires { length text.now ≤ LIMIT }
+    requires short { length text.now ≤ LIMIT }
+    requires narrow { BranchesAreNarrow checked.now }
     ensures { Prepares (job_on command checked.now text.now) result }
 {
     match accept_job(alloc, checked.def(), text) {
@@ -100,10 +106,14 @@ fn work(
     requires short { length text.now ≤ LIMIT }
     requires program { IsProgramOf checked.now job.now.arena }
     requires over { job.now.arena.names ≡ length job.now.names }
+    requires calls { CallsFit checked.now (seen job.now) }
+    requires narrow { BranchesAreNarrow checked.now }
     ensures { Prepares (job_plan command checked.now text.now (seen job.now)) result }
 {
     match command {
         JobCommand::Run { depth } => run(alloc, checked, job, depth, text),
         JobCommand::Constrain(domain) => constrain(alloc, checked, job, domain, text),
+        JobCommand::Analyse(domain) => analyse(alloc, checked, job, domain, text),
+        JobCommand::Solve => solve(alloc, checked, job, text),
     }
 }

@@ -21,6 +21,10 @@ pub enum Command {
     Verify(DomainWord),
     /// `constrain DEF JOB DOMAIN`: the constraints of the program and of the job's cover lines of a domain.
     Constrain(DomainWord),
+    /// `analyse DEF JOB DOMAIN`: the table of the analysis from the job's cover lines of a domain.
+    Analyse(DomainWord),
+    /// `solve DEF JOB sign`: the table of the least solution of the program's constraints over signs.
+    Solve,
 }
 
 /// What is made of a definition and a job alone.
@@ -28,4 +32,6 @@ pub enum Command {
 pub(crate) enum JobCommand {
     Run { depth: u32 },
     Constrain(DomainWord),
+    Analyse(DomainWord),
+    Solve,
 }

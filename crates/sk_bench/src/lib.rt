@@ -3,9 +3,11 @@
 #![tactic(auto)]
 
 mod accept;
+mod analyse_command;
 mod check;
 mod codes;
 mod constrain_command;
+mod cover_lines;
 mod job;
 mod job_calls;
 mod job_command;
@@ -17,6 +19,7 @@ mod kinds;
 mod print;
 mod refused;
 mod run;
+mod solve_command;
 mod status;
 mod top;
 mod verdict_text;

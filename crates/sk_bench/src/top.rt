@@ -94,6 +94,20 @@ fn produce<F: Files>(
             word(words, 1),
             word(words, 2),
         ),
+        Command::Analyse(domain) => on_job(
+            alloc,
+            files,
+            JobCommand::Analyse(domain),
+            word(words, 1),
+            word(words, 2),
+        ),
+        Command::Solve => on_job(
+            alloc,
+            files,
+            JobCommand::Solve,
+            word(words, 1),
+            word(words, 2),
+        ),
         Command::Verify(domain) => verify(
             alloc,
             files,

@@ -2,7 +2,7 @@
 ghost use Rattle.std.specs.Prelude.{◌≡◌, map, option_map, string_bytes};
 ghost use Rattle.std.specs.Char.{is_ascii_digit};
 ghost use Rattle.std.specs.List.{list_all};
-ghost use Rattle.sk_bench.specs.declared.kinds.Command.TheVariants.{Run, Verify, Constrain};
+ghost use Rattle.sk_bench.specs.declared.kinds.Command.TheVariants.{Run, Verify, Constrain, Analyse, Solve};
 ghost use Rattle.sk_bench.specs.Words.{is_number, number_up_to, domain_of, job_command_of, command_of};
 
 use crate::{Command, DomainWord};
@@ -11,7 +11,8 @@ use crate::{Command, DomainWord};
 const MOST_DEPTH: u32 = 64;
 
 /// The command that the words are, none where they fit no row: `check DEF`; `run DEF JOB N`, where N has 1 to 10 digits and is
-/// at most 64; `constrain DEF JOB DOMAIN`; or `verify DEF JOB DOMAIN TABLE`. DOMAIN is `sign` or `interval`.
+/// at most 64; `constrain DEF JOB DOMAIN`; `analyse DEF JOB DOMAIN`; `solve DEF JOB sign`; or `verify DEF JOB DOMAIN TABLE`.
+/// DOMAIN is `sign` or `interval`.
 pub fn command(words: &[String]) -> Option<Command>
     ensures { result ≡ command_of (map string_bytes words.now) }
 {
@@ -33,7 +34,20 @@ fn on_job(word: &str, last: &str) -> Option<Command>
     if word == "constrain" {
         return constrain(last);
     }
+    if word == "analyse" {
+        return analyse(last);
+    }
+    if word == "solve" && last == "sign" {
+        return Some(Command::Solve);
+    }
     None
+}
+
+/// The command `analyse` over the domain of this word.
+fn analyse(domain: &str) -> Option<Command>
+    ensures { result ≡ option_map Analyse (domain_of domain.now) }
+{
+    domain_named(domain).map(|domain| Command::Analyse(domain))
 }
 
 /// The command `constrain` over the domain of this word.
