@@ -85,7 +85,7 @@ fn marks_of(alloc: Global, checked: &Checked, arena: &Arena) -> Result<Threshold
 }
 
 /// Makes the text of the analysis from these cover lines.
-#[tactic(auto, using(crate::proofs::CoverCalls::covers_fit, crate::proofs::Bounds::few_rounds, crate::proofs::Analysed::analysis_in, crate::proofs::Analysed::analysis_means))]
+#[tactic(auto, using(crate::proofs::CoverCalls::covers_fit))]
 fn analysis<D: NumDom, L: Ledger>(
     alloc: Global,
     checked: &Checked,

@@ -76,8 +76,29 @@ fn a_sum_is_run(rt: HostRuntime) -> Result<(), Fail> {
     Ok(())
 }
 
-/// Definitions and tables, and what the commands write of them.
-const TEXTS: [(&str, &str, &str, Status); 14] = [
+const SIGNS: &str = "table 1 sign
+eval 0 () -> (pos)
+eval 1 () -> (pos)
+eval 2 () -> (pos)
+";
+
+const CONSTRAINTS: &str = "constraints 1 sign
+cover eval 0 ()
+key eval 0
+0 -> 1 call eval 1 ()
+1 -> 2 call eval 2 ()
+2 -> 3 filter add (1.0, 2.0)
+3 -> out (3.0)
+key eval 1
+0 -> 1 filter lit (1)
+1 -> out (1.0)
+key eval 2
+0 -> 1 filter lit (2)
+1 -> out (1.0)
+";
+
+/// Definitions, jobs and tables, and what the commands write of them.
+const TEXTS: [(&str, &str, &str, Status); 19] = [
     (
         "check d",
         "",
@@ -162,6 +183,21 @@ const TEXTS: [(&str, &str, &str, Status); 14] = [
         "refused table 1:9 WrongDomain\n",
         Status::Table,
     ),
+    ("analyse d j sign", "", SIGNS, Status::Done),
+    ("solve d j sign", "", SIGNS, Status::Done),
+    (
+        "analyse d j interval",
+        "",
+        "table 1 interval\neval 0 () -> ([3..3])\neval 1 () -> ([1..1])\neval 2 () -> ([2..2])\n",
+        Status::Done,
+    ),
+    ("constrain d j sign", "", CONSTRAINTS, Status::Done),
+    (
+        "analyse d t sign",
+        "job 1\nprogram num(1)\n",
+        "refused job 3:1 NoCover\n",
+        Status::Job,
+    ),
 ];
 
 #[test]
@@ -169,7 +205,7 @@ fn texts_are_checked(rt: HostRuntime) -> Result<(), Fail> {
     let alloc = rt.alloc();
     for (line, text, written, wanted) in TEXTS {
         let mut files = files_with(alloc, 99, text)?;
-        let mut sink = MemSink::new(alloc, 100, &[])?;
+        let mut sink = MemSink::new(alloc, 1000, &[])?;
         let words = words(alloc, line)?;
         let status = workbench(alloc, words.as_slice(), &mut files, &mut sink);
         assert_eq!(rt; str::from_utf8(sink.written()), Ok(written), "{text}");
