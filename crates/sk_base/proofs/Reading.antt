@@ -2,9 +2,13 @@
 use Rattle.std.proofs.Common.{◌≡◌, ℕ, ◌+◌, ◌-◌, ◌^◌, ◌<◌, ◌≤◌, Bool, List, [], ◌++◌, take, length, Option, None, Some, Ok, IfSome, sym, ap, ◌∙◌, arith, append_assoc, append-nil, length-append, length-take}
 use Rattle.std.specs.Io.KnownBytes.{Consumes, IsAtEnd}
 use Rattle.sk_base.specs.Causes.{NeverFalls}
-use Rattle.sk_base.specs.Files.{Folder, Selection, Selects, Pulls}
+use Rattle.sk_base.specs.Files.{Folder, Selection, Selects, Pulls, turn_after, progress_of, read_once}
 use Rattle.sk_base.specs.declared.errors.Failed.{Failed}
 use Rattle.sk_base.proofs.Writing.{never_falls-trans}
+
+-- one more file was selected and gave so many bytes
+pub is_read_once : (was now : Selection) (given : ℕ) → now.turns ≡ turn_after was.turns → now.given ≡ given → progress_of now ≡ read_once (progress_of was) given
+is_read_once was now given turns gave = λ i. record { turns = turns i; given = gave i }
 
 -- so far the file gave these bytes
 pub record ReadsOn (told : Option (List ℕ)) (steady : Bool) (now : Selection) (limit before after : ℕ) (bytes : List ℕ) : Type 0 where
@@ -36,9 +40,9 @@ consumes_whole (Some all) None bytes p end = absurd p
 consumes_whole (Some all) (Some rest) bytes p end = sym (p ∙ ap (λ l. bytes ++ l) end ∙ append-nil bytes)
 
 module _ (told : Option (List ℕ)) (steady : Bool) (limit before : ℕ) (fits : limit < 2 ^ 32 - 1) where
-  pub reads_first : (folder : Folder) (name : List ℕ) (now : Selection) (after : ℕ) → Selects {T = Unit {0}} {E = Failed} folder name now (Ok tt) → told ≡ folder.told name → steady ≡ folder.steady name
+  pub reads_first : (folder : Folder) (name : List ℕ) (old now : Selection) (after : ℕ) → Selects {T = Unit {0}} {E = Failed} folder name old now (Ok tt) → told ≡ folder.told name → steady ≡ folder.steady name
       → NeverFalls before after → ReadsOn told steady now limit before after []
-  reads_first folder name now after begun told_is steady_is count = record {
+  reads_first folder name old now after begun told_is steady_is count = record {
     consumed = consumes_none told now.left (begun.begun.0 ∙ sym told_is);
     steady_is = begun.begun.1 ∙ sym steady_is;
     given = begun.given;

@@ -21,11 +21,12 @@ calls_failing files = files.script.failing.items
 abbrev pub calls_failed : MemFiles → ℕ
 calls_failed files = files.script.faults
 
--- the file that was selected last
+-- the file that was selected last, and how often one was
 abbrev pub selection_of : MemFiles → Selection
 selection_of files = record {
   left = bytes_left files.held.items files.selected files.taken;
   steady = is_reliable files.script.failing.items;
   given = files.given;
   ended = files.ended;
+  turns = files.turns;
 }

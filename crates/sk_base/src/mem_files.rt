@@ -54,6 +54,7 @@ pub struct MemFiles {
     alloc: Global,
     held: Vec<HeldFile>,
     selected: Option<usize>,
+    turns: u64,
     taken: usize,
     given: u64,
     ended: bool,
@@ -101,11 +102,13 @@ impl MemFiles {
         ensures failing { IfOk result (λ files. calls_failing files ≡ failing.now) }
         ensures faults { IfOk result (λ files. calls_failed files ≡ 0) }
         ensures selection { IfOk result (λ files. ((selection_of files).left ≡ None) × ((selection_of files).given ≡ 0) × ((selection_of files).ended ≡ false)) }
+        ensures turns { IfOk result (λ files. (selection_of files).turns ≡ 0) }
     {
         Ok(MemFiles {
             alloc,
             held: Vec::new(alloc),
             selected: None,
+            turns: 0,
             taken: 0,
             given: 0,
             ended: false,
@@ -125,6 +128,7 @@ impl MemFiles {
         ensures selection { MatchResult result (λ _. (selection_of self.new).left ≡ None) (λ _. (selection_of self.new).left ≡ (selection_of self.old).left) }
         ensures given { (selection_of self.new).given ≡ (selection_of self.old).given }
         ensures ended { (selection_of self.new).ended ≡ (selection_of self.old).ended }
+        ensures turns { (selection_of self.new).turns ≡ (selection_of self.old).turns }
         ensures script { self.new.script ≡ self.old.script }
     {
         let file = HeldFile {
@@ -153,7 +157,7 @@ impl Files for MemFiles {
     /// Turns to a file that is held, unless the number of the call says that it fails.
     fn select(&mut self, name: &str) -> Result<(), Failed>
         ensures folder { folder_of (files_held self.new) (calls_failing self.new) ≡ folder_of (files_held self.old) (calls_failing self.old) }
-        ensures selects { Selects (folder_of (files_held self.old) (calls_failing self.old)) name.now (selection_of self.new) result }
+        ensures selects { Selects (folder_of (files_held self.old) (calls_failing self.old)) name.now (selection_of self.old) (selection_of self.new) result }
         ensures cause { HasCause (calls_failed self.old) (calls_failed self.new) result }
 
         // It fails at a number that is to fail, and at a name that isn't held.
@@ -163,6 +167,7 @@ impl Files for MemFiles {
         ensures failing { calls_failing self.new ≡ calls_failing self.old }
         ensures faults { calls_failed self.new ≡ (if is_ok result then calls_failed self.old else min (calls_failed self.old + 1) (2 ^ 64 - 1)) }
     {
+        self.turns = self.turns.saturating_add(1);
         self.taken = 0;
         self.selected = None;
         self.given = 0;
