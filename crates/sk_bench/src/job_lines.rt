@@ -1,5 +1,5 @@
 //! The lines of a job after its program: what is expected meets the next token.
-ghost use Rattle.std.specs.Prelude.{◌≡◌, ◌+◌, ◌≤◌, ◌<◌, ◌∷◌, drop, length, Ok, IfOk, OnOk};
+ghost use Rattle.std.specs.Prelude.{◌≡◌, ◌+◌, ◌≤◌, ◌<◌, [], ◌∷◌, drop, length, Ok, IfOk, OnOk};
 ghost use Rattle.sk_interval.specs.Intervals.{interval_domain};
 ghost use Rattle.sk_interval.specs.Texts.{interval_texts};
 ghost use Rattle.sk_sign.specs.Signs.{sign_domain};
@@ -246,6 +246,10 @@ impl<'a> Reader for LineReader<'a> {
     ghost within = { LinesFit };
 
     ghost keeps = { Keeps };
+
+    ghost names = { λ _. [] };
+
+    ghost names_refused = { λ _ _ _. [] };
 
     fn meet(
         &mut self,

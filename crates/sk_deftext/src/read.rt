@@ -1,6 +1,6 @@
 //! The reader of a definition's tokens.
 
-ghost use Rattle.std.specs.Prelude.{◌≡◌, Ok, ⊤};
+ghost use Rattle.std.specs.Prelude.{◌≡◌, [], Ok, ⊤};
 ghost use Rattle.sk_base.specs.Answer.{Gives};
 ghost use Rattle.sk_lex.specs.Symbols.{symbols};
 ghost use Rattle.sk_lex.specs.Tokens.{tokens_of};
@@ -25,6 +25,10 @@ impl Reader for Draft {
     ghost within = { IsWithin };
 
     ghost keeps = { λ _ _. ⊤ };
+
+    ghost names = { λ _. [] };
+
+    ghost names_refused = { λ _ _ _. [] };
 
     fn meet(
         &mut self,

@@ -1,5 +1,5 @@
 -- What the code of a step means.
-use Rattle.std.specs.Prelude.{◌≡◌, ◌<◌, ℕ, Bool, true, List, length, map, Option, Some, None}
+use Rattle.std.specs.Prelude.{◌≡◌, ◌<◌, ℕ, Bool, true, List, length, map, Option, Some, None, Result, Ok, Err, ⊤}
 use Rattle.std.specs.List.{list_all}
 use Rattle.sk_base.specs.declared.flow.FlowSort.{FlowSort}
 use Rattle.sk_value.specs.Numbers.{is_number}
@@ -22,6 +22,17 @@ error_of NoMemory = None
 abbrev pub bad_of : TupleFault → Option (TupleError × ℕ)
 bad_of (fault.Bad error at) = Some (error, at)
 bad_of fault.NoMemory = None
+
+-- it holds after a refusal with an error
+abbrev pub OnRefusal : {A : Type 0} → Result A Refusal → Type 0 → Type 0
+OnRefusal (Err (Bad error)) P = P
+OnRefusal (Err NoMemory) P = ⊤
+OnRefusal (Ok value) P = ⊤
+
+abbrev pub OnFault : {A : Type 0} → Result A TupleFault → Type 0 → Type 0
+OnFault (Err (fault.Bad error at)) P = P
+OnFault (Err fault.NoMemory) P = ⊤
+OnFault (Ok value) P = ⊤
 
 -- the sorts stay, and names were added
 pub record Keeps (before now : Reading) : Type 0 where

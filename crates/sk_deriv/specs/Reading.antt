@@ -6,7 +6,7 @@ use Rattle.sk_base.specs.Answer.{◌>>=◌}
 use Rattle.sk_base.specs.Names.{with_name}
 use Rattle.sk_base.specs.declared.flow.FlowSort.{FlowSort}
 use Rattle.sk_base.specs.declared.flow.FlowSort.TheVariants as sort
-use Rattle.sk_lex.specs.Run.{Turn, Rules, run}
+use Rattle.sk_lex.specs.Run.{Turn, Rules, run, shown_at_stop}
 use Rattle.sk_lex.specs.Symbols.{Symbol, word_of, number_of, is_open, is_close, is_comma, is_equals, is_left_brace, is_right_brace}
 use Rattle.sk_value.specs.Padding.{padded_flow, padded_store}
 use Rattle.sk_value.specs.Texts.{truth_text}
@@ -143,6 +143,27 @@ tuple_rules = record {
   unexpected = Unexpected;
 }
 
+-- the names that stand
+abbrev pub names_of : Reading → List (List ℕ)
+names_of state = state.names
+
+-- the names with a word, if there is one and they have room for it
+abbrev pub names_with : List (List ℕ) → Option (List ℕ) → List (List ℕ)
+names_with names None = names
+names_with names (Some word) = option_map_or (λ (added : ℕ × List (List ℕ)). added.1) (with_name names word) names
+
+-- the names that stand once a symbol was refused: those from before, since a word that is refused in a name's place is among
+-- them already or has no place
+abbrev pub names_refused : Expected → Reading → Symbol → List (List ℕ)
+names_refused Open state symbol = state.names
+names_refused Item state symbol = state.names
+names_refused After state symbol = state.names
+names_refused FirstName state symbol = names_with state.names (word_of symbol)
+names_refused NextName state symbol = names_with state.names (word_of symbol)
+names_refused Equals state symbol = state.names
+names_refused SetTo state symbol = state.names
+names_refused AfterName state symbol = state.names
+
 -- nothing was read, and these names stand
 abbrev pub nothing : List FlowSort → List (List ℕ) → Reading
 nothing sorts names = record { sorts = sorts; flows = []; store = []; name = 0; names = names }
@@ -150,6 +171,10 @@ nothing sorts names = record { sorts = sorts; flows = []; store = []; name = 0; 
 -- One tuple from a place on: what was read and the place of the next symbol, or the code and its place.
 unfoldable pub read_symbols : List FlowSort → List (List ℕ) → ℕ → List Symbol → Result (Reading × ℕ) (TupleError × ℕ)
 read_symbols sorts names at symbols = run tuple_rules 0 at (Open ∷ Item ∷ []) (nothing sorts names) symbols
+
+-- the names where the reading of one tuple stops: those that stood, and the names in its stores up to there
+unfoldable pub names_at_stop : List FlowSort → List (List ℕ) → ℕ → List Symbol → List (List ℕ)
+names_at_stop sorts names at symbols = shown_at_stop tuple_rules names_refused names_of 0 at (Open ∷ Item ∷ []) (nothing sorts names) symbols
 
 -- the tuple, and the names with its own
 pub record ReadTuple : Type 0 where

@@ -4,11 +4,11 @@ ghost use Rattle.std.specs.Prelude.{◌≡◌, ◌<◌, ◌≤◌, drop, length,
 ghost use Rattle.sk_base.specs.Answer.{Gives};
 ghost use Rattle.sk_lex.specs.Symbols.{symbols};
 ghost use Rattle.sk_lex.specs.Tokens.{tokens_of};
-ghost use Rattle.sk_lex.specs.Turns.{bad_of as refused_of};
+ghost use Rattle.sk_lex.specs.Turns.{bad_of as refused_of, OnAnswer};
 ghost use Rattle.sk_term.specs.Meets.{HasGrown};
-ghost use Rattle.sk_deriv.specs.Meets.{IsRead, bad_of};
+ghost use Rattle.sk_deriv.specs.Meets.{IsRead, bad_of, OnFault};
 ghost use Rattle.sk_deriv.specs.Moves.{have_sorts};
-ghost use Rattle.sk_deriv.specs.Reading.{read_tuple, read_symbols};
+ghost use Rattle.sk_deriv.specs.Reading.{read_tuple, read_symbols, names_at_stop};
 
 use crate::expected::Expected;
 use crate::fault::{TupleError, TupleFault};
@@ -22,7 +22,7 @@ use std::mem;
 
 /// Reads one tuple from a place of the tokens on, where these names stand. Answers the place of the next token, and
 /// what was read, also before a refusal.
-#[tactic(auto, unfolding(crate::specs::Reading::read_symbols))]
+#[tactic(auto, unfolding(crate::specs::Reading::read_symbols, crate::specs::Reading::names_at_stop))]
 fn read_with<'a>(
     alloc: Global,
     sorts: &'a FlowSorts,
@@ -37,6 +37,7 @@ fn read_with<'a>(
     ensures place { IfOk result.0 (λ at. at ≤ length tokens.now) }
     ensures values { IfOk result.0 (λ at. IsRead sorts.now from at result.1) }
     ensures grown { HasGrown names result.1.names }
+    ensures names { OnAnswer result.0 (result.1.names ≡ names_at_stop sorts.now names from (drop from (symbols text.now tokens.now))) }
 {
     let mut reader = TupleReader::new(alloc, sorts, names);
     let end = read_on(
@@ -84,6 +85,9 @@ pub fn read_tuple(
     ensures sorts { IfOk result (λ read. IsTrue (have_sorts (length names.new) sorts.now read.0)) }
     ensures place { IfOk result (λ read. (from < read.1) × (read.1 ≤ length tokens.now)) }
     ensures grown { HasGrown names.old names.new }
+
+    // After a refusal the names are those that stood and those read before the refused token.
+    ensures refused { OnFault result (names.new ≡ names_at_stop sorts.now names.old from (drop from (symbols text.now tokens.now))) }
 {
     let (end, reader) = read_with(
         alloc,

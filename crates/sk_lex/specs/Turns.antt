@@ -1,5 +1,5 @@
 -- What the code of a reader means.
-use Rattle.std.specs.Prelude.{ℕ, Option, Some, None}
+use Rattle.std.specs.Prelude.{ℕ, Option, Some, None, Result, Ok, Err, ⊤}
 use Rattle.sk_lex.specs.Run.{Turn}
 use Rattle.sk_lex.specs.declared.reader.Taken.{Taken}
 use Rattle.sk_lex.specs.declared.reader.Refused.{Refused}
@@ -13,3 +13,15 @@ turn_of state taken = record { expected = taken.expected.now; state = state; mor
 abbrev pub bad_of : {Code : Type 0} → Refused Code → Option (Code × ℕ)
 bad_of (Bad code at) = Some (code, at)
 bad_of NoMemory = None
+
+-- it holds of every answer but want of memory
+abbrev pub OnAnswer : {A Code : Type 0} → Result A (Refused Code) → Type 0 → Type 0
+OnAnswer (Err (Bad code at)) P = P
+OnAnswer (Err NoMemory) P = ⊤
+OnAnswer (Ok value) P = P
+
+-- it holds after a refusal with a code
+abbrev pub OnBad : {A Code : Type 0} → Result A (Refused Code) → Type 0 → Type 0
+OnBad (Err (Bad code at)) P = P
+OnBad (Err NoMemory) P = ⊤
+OnBad (Ok value) P = ⊤

@@ -1,12 +1,12 @@
 //! Reading tokens by what is expected: the one loop of all readers.
 
-ghost use Rattle.std.specs.Prelude.{◌≡◌, ℕ, ◌+◌, ◌<◌, ◌≤◌, ◌∷◌, ◌++◌, drop, length, Ok, IfOk, OnOk};
+ghost use Rattle.std.specs.Prelude.{◌≡◌, ℕ, List, ◌+◌, ◌<◌, ◌≤◌, ◌∷◌, ◌++◌, drop, length, Ok, IfOk, OnOk};
 ghost use Rattle.std.specs.List.{list_all};
 ghost use Rattle.sk_base.specs.Answer.{Gives};
-ghost use Rattle.sk_lex.specs.Run.{Rules, at_end, run, run_whole};
-ghost use Rattle.sk_lex.specs.Symbols.{symbols, symbol, IsShort};
+ghost use Rattle.sk_lex.specs.Run.{Rules, at_end, run, run_whole, shown_at_stop};
+ghost use Rattle.sk_lex.specs.Symbols.{Symbol, symbols, symbol, IsShort};
 ghost use Rattle.sk_lex.specs.Tokens.{tokens_of};
-ghost use Rattle.sk_lex.specs.Turns.{turn_of, bad_of};
+ghost use Rattle.sk_lex.specs.Turns.{turn_of, bad_of, OnAnswer, OnBad};
 
 use crate::lexeme::{Lexeme, expect, lexeme_at};
 use crate::token::Token;
@@ -43,7 +43,7 @@ impl<C> From<NoMemory> for Refused<C> {
 }
 
 /// What was read so far of a text, and the grammar by which it goes on. What is lent to a reader for a while, as a list
-/// of names, is moved into it and taken back afterwards; what `keeps` says of it holds after a refusal too.
+/// of names, is moved into it and taken back afterwards; what `keeps` and `names` say of it holds after a refusal too.
 pub trait Reader {
     /// What may stand next.
     type Expected: Copy + Drop + 'static;
@@ -59,6 +59,12 @@ pub trait Reader {
 
     /// What holds between the reader as it began and as it is now, also after a refusal.
     ghost keeps: { Self → Self → Type 0 };
+
+    /// The names that it has, for a reader to which names are lent.
+    ghost names: { Self → List (List ℕ) };
+
+    /// The names that it has once a symbol was refused where this was expected.
+    ghost names_refused: { Self.Expected → Self → Symbol → List (List ℕ) };
 
     /// Meets the token at a place of a text, where this is expected.
     fn meet(
@@ -78,7 +84,8 @@ pub trait Reader {
         ensures gives { Gives (λ taken. turn_of self.new taken) bad_of result (rules.meets expected self.old at (symbol lexeme.entry) (drop (at + 1) (symbols text.now tokens.now))) }
         ensures taken { IfOk result (λ taken. at + 1 + taken.more ≤ length tokens.now) }
         ensures within { OnOk result (within self.new) }
-        ensures kept { (begun : Self) → keeps begun self.old → keeps begun self.new };
+        ensures kept { (begun : Self) → keeps begun self.old → keeps begun self.new }
+        ensures names { OnBad result (names self.new ≡ names_refused expected self.old (symbol lexeme.entry)) };
 
     /// Whether the text may end where this is expected.
     fn may_end(expected: Self::Expected) -> bool
@@ -117,7 +124,8 @@ fn end_text<R: Reader>(
 }
 
 /// Reads on from a place of a text's tokens until nothing more is expected, and answers the place of the next token.
-/// The reader then holds what was read; after a refusal it holds what its grammar keeps.
+/// The reader then holds what was read; after a refusal it holds what its grammar keeps, with the names that were read
+/// up to there.
 pub fn read_on<R: Reader>(
     alloc: Global,
     reader: &mut R,
@@ -133,6 +141,7 @@ pub fn read_on<R: Reader>(
     ensures place { IfOk result (λ at. at ≤ length tokens.now) }
     ensures within { OnOk result (R.within reader.new) }
     ensures kept { (begun : R) → R.keeps begun reader.old → R.keeps begun reader.new }
+    ensures names { OnAnswer result (R.names reader.new ≡ shown_at_stop R.rules R.names_refused R.names 0 from start.now reader.old (drop from (symbols text.now tokens.now))) }
 {
     let mut stack = Stack::new(alloc);
     expect(&mut stack, start)?;

@@ -52,7 +52,7 @@ truth_union f a b = record {
   has_false = some_pair a b (λ p q. (f p q).has_false);
 }
 
--- an entry for each pair of single signs: set.neg,set.neg set.neg,set.zero set.neg,set.pos set.zero,set.neg set.zero,set.zero set.zero,set.pos set.pos,set.neg set.pos,set.zero set.pos,set.pos
+-- an entry for each pair of single signs, the first sign before the second, and each negative, zero, positive
 abbrev pub nine : {X : Type 0} → X → X → X → X → X → X → X → X → X → One → One → X
 nine nn nz np zn zz zp pn pz pp Negative Negative = nn
 nine nn nz np zn zz zp pn pz pp Negative Zero = nz

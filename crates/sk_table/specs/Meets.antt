@@ -1,5 +1,5 @@
 -- What the code of a reader means.
-use Rattle.std.specs.Prelude.{◌≡◌, ◌<◌, ℕ, Bool, true, false, ◌||◌, List, length, map, drop, Option, Some, None, Result, Ok, Err}
+use Rattle.std.specs.Prelude.{◌≡◌, ◌<◌, ℕ, Bool, true, false, ◌||◌, List, length, map, drop, Option, Some, None, Result, Ok, Err, ⊤}
 use Rattle.std.specs.List.{list_all}
 use Rattle.sk_base.specs.Place.{place_at}
 use Rattle.sk_base.specs.declared.flow.FlowSort.{FlowSort}
@@ -29,6 +29,17 @@ error_of NoMemory = None
 abbrev pub bad_of : TableFault → Option (TableError × Place)
 bad_of (fault.Bad error place) = Some (error, place)
 bad_of fault.NoMemory = None
+
+-- it holds after a refusal with an error
+abbrev pub OnRefusal : {A : Type 0} → Result A Refusal → Type 0 → Type 0
+OnRefusal (Err (Bad error)) P = P
+OnRefusal (Err NoMemory) P = ⊤
+OnRefusal (Ok value) P = ⊤
+
+abbrev pub OnFault : {A : Type 0} → Result A TableFault → Type 0 → Type 0
+OnFault (Err (fault.Bad error place)) P = P
+OnFault (Err fault.NoMemory) P = ⊤
+OnFault (Ok value) P = ⊤
 
 -- the place in a text of the token of this number
 abbrev pub place_in : List ℕ → List Token → ℕ → Place

@@ -7,7 +7,7 @@ use Rattle.sk_base.specs.Answer.{◌>>=◌}
 use Rattle.sk_base.specs.Names.{place_of_name, with_name}
 use Rattle.sk_base.specs.declared.flow.FlowSort.{FlowSort}
 use Rattle.sk_base.specs.declared.flow.FlowSort.TheVariants as sort
-use Rattle.sk_lex.specs.Run.{Turn, Rules, run}
+use Rattle.sk_lex.specs.Run.{Turn, Rules, run, shown_at_stop}
 use Rattle.sk_lex.specs.Symbols.{Symbol, word_of, is_open, is_close, is_comma, is_equals, is_slash, is_question, is_left_brace, is_right_brace}
 use Rattle.sk_lattice.specs.Domain.{Domain}
 use Rattle.sk_lattice.specs.DomainTexts.{DomainTexts}
@@ -210,6 +210,35 @@ tuple_rules d t = record {
   unexpected = Unexpected;
 }
 
+-- the names that stand
+abbrev pub names_of : {D : Type 0} → Reading D → List (List ℕ)
+names_of state = state.names
+
+-- the names after a word, if there is one and it has a place
+abbrev pub names_placed : List (List ℕ) → Result (ℕ × List (List ℕ)) TableError → List (List ℕ)
+names_placed names (Ok (place, others)) = others
+names_placed names (Err error) = names
+
+abbrev pub names_with : Bool → List (List ℕ) → Option (List ℕ) → List (List ℕ)
+names_with known names None = names
+names_with known names (Some word) = names_placed names (place_for known names word)
+
+-- the names that stand once a symbol was refused: those from before, since a word that is refused in a name's place is among
+-- them already or has no place
+abbrev pub names_refused : {D : Type 0} → Expected → Reading D → Symbol → List (List ℕ)
+names_refused Open state symbol = state.names
+names_refused Item state symbol = state.names
+names_refused After state symbol = state.names
+names_refused Slash state symbol = state.names
+names_refused Truth state symbol = state.names
+names_refused FirstName state symbol = names_with state.known state.names (word_of symbol)
+names_refused NextName state symbol = names_with state.known state.names (word_of symbol)
+names_refused Equals state symbol = state.names
+names_refused Number state symbol = state.names
+names_refused CellTruth state symbol = state.names
+names_refused Mark state symbol = state.names
+names_refused AfterName state symbol = state.names
+
 -- nothing was read, and these names stand
 abbrev pub nothing : {D : Type 0} → Domain D → Bool → List FlowSort → List (List ℕ) → Reading D
 nothing d known sorts names = record {
@@ -226,6 +255,10 @@ nothing d known sorts names = record {
 -- One tuple from a place on: what was read and the place of the next symbol, or the code and its place.
 unfoldable pub read_symbols : {D : Type 0} → Domain D → DomainTexts D → Bool → List FlowSort → List (List ℕ) → ℕ → List Symbol → Result (Reading D × ℕ) (TableError × ℕ)
 read_symbols d t known sorts names at symbols = run (tuple_rules d t) 0 at (Open ∷ Item ∷ []) (nothing d known sorts names) symbols
+
+-- the names where the reading of one tuple stops: those that stood, and the names in its stores up to there
+unfoldable pub names_at_stop : {D : Type 0} → Domain D → DomainTexts D → Bool → List FlowSort → List (List ℕ) → ℕ → List Symbol → List (List ℕ)
+names_at_stop d t known sorts names at symbols = shown_at_stop (tuple_rules d t) names_refused names_of 0 at (Open ∷ Item ∷ []) (nothing d known sorts names) symbols
 
 -- the tuple, and the names with its own
 pub record ReadTuple (D : Type 0) : Type 0 where

@@ -377,6 +377,10 @@ impl<'a, D: NumDom> Reader for TableReader<'a, D> {
 
     ghost keeps = { Stays };
 
+    ghost names = { λ _. [] };
+
+    ghost names_refused = { λ _ _ _. [] };
+
     fn meet(
         &mut self,
         alloc: Global,

@@ -7,10 +7,10 @@ ghost use Rattle.sk_lattice.specs.Empty.{flow_is_empty};
 ghost use Rattle.sk_lattice.specs.Shapes.{has_sorts};
 ghost use Rattle.sk_lex.specs.Symbols.{symbols};
 ghost use Rattle.sk_lex.specs.Tokens.{tokens_of};
-ghost use Rattle.sk_lex.specs.Turns.{bad_of as refused_of};
+ghost use Rattle.sk_lex.specs.Turns.{bad_of as refused_of, OnAnswer};
 ghost use Rattle.sk_term.specs.Meets.{HasGrown};
-ghost use Rattle.sk_table.specs.Meets.{are_known, bad_of, is_clean, IsRead, names_in, placed, with_place};
-ghost use Rattle.sk_table.specs.Tuples.{read_symbols, read_tuple, whole};
+ghost use Rattle.sk_table.specs.Meets.{are_known, bad_of, is_clean, IsRead, names_in, OnFault, placed, with_place};
+ghost use Rattle.sk_table.specs.Tuples.{names_at_stop, read_symbols, read_tuple, whole};
 
 use crate::expected::Expected;
 use crate::fault::{TableError, TableFault};
@@ -31,7 +31,7 @@ pub(crate) type Read<'a, D> = (
 
 /// Reads the flows of one tuple from a place of the tokens on, where these names stand. Answers the place of the next
 /// token, and what was read, also before a refusal.
-#[tactic(auto, unfolding(crate::specs::Tuples::read_symbols))]
+#[tactic(auto, unfolding(crate::specs::Tuples::read_symbols, crate::specs::Tuples::names_at_stop))]
 fn read_with<'a, D: NumDom>(
     alloc: Global,
     sorts: &'a FlowSorts,
@@ -48,6 +48,7 @@ fn read_with<'a, D: NumDom>(
     ensures flows { IfOk result.0 (λ at. IsRead D.domain sorts.now from at result.1) }
     ensures known { result.1.known ≡ are_known naming.entry }
     ensures grown { HasGrown (names_in naming.entry) result.1.names }
+    ensures names { OnAnswer result.0 (result.1.names ≡ names_at_stop D.domain D.texts (are_known naming.entry) sorts.now (names_in naming.entry) from (drop from (symbols text.now tokens.now))) }
     ensures same { are_known naming.entry ≡ true → result.1.names ≡ names_in naming.entry }
 {
     let mut reader = TupleReader::new(alloc, sorts, naming);
@@ -120,6 +121,7 @@ pub(crate) fn read_at<'a, D: NumDom>(
     ensures place { IfOk result.0 (λ read. (from < read.1) × (read.1 ≤ length tokens.now)) }
     ensures known { are_known result.1 ≡ are_known naming.entry }
     ensures grown { HasGrown (names_in naming.entry) (names_in result.1) }
+    ensures names { OnAnswer result.0 (names_in result.1 ≡ names_at_stop D.domain D.texts (are_known naming.entry) sorts.now (names_in naming.entry) from (drop from (symbols text.now tokens.now))) }
     ensures same { are_known naming.entry ≡ true → names_in result.1 ≡ names_in naming.entry }
 {
     let (end, reader) = read_with(alloc, sorts, text, tokens, from, naming);
@@ -166,6 +168,7 @@ pub fn take_abs_tuple<D: NumDom>(
     ensures sorts { IfOk result (λ read. IsTrue (has_sorts (length names.new) sorts.now read.0)) }
     ensures place { IfOk result (λ read. (from < read.1) × (read.1 ≤ length tokens.now)) }
     ensures grown { HasGrown names.old names.new }
+    ensures refused { OnAnswer result (names.new ≡ names_at_stop D.domain D.texts false sorts.now names.old from (drop from (symbols text.now tokens.now))) }
 {
     let naming = Naming::Adding(mem::replace(names, Names::new(alloc)));
     let (read, naming) = read_at(alloc, sorts, text, tokens, from, naming);
@@ -195,6 +198,9 @@ pub fn read_abs_tuple<D: NumDom>(
     ensures sorts { IfOk result (λ read. IsTrue (has_sorts (length names.new) sorts.now read.0)) }
     ensures place { IfOk result (λ read. (from < read.1) × (read.1 ≤ length tokens.now)) }
     ensures grown { HasGrown names.old names.new }
+
+    // After a refusal the names are those that stood and those read before the refused token.
+    ensures refused { OnFault result (names.new ≡ names_at_stop D.domain D.texts false sorts.now names.old from (drop from (symbols text.now tokens.now))) }
 {
     match take_abs_tuple(alloc, sorts, names, text, tokens, from) {
         Ok(read) => Ok(read),

@@ -5,14 +5,14 @@ ghost use Rattle.sk_base.specs.Answer.{Gives};
 ghost use Rattle.sk_lex.specs.Symbols.{symbol, symbols, IsShort, word_of};
 ghost use Rattle.sk_lex.specs.Tokens.{tokens_of};
 ghost use Rattle.sk_lex.specs.declared.reader.Refused.TheVariants as refused;
-ghost use Rattle.sk_lex.specs.Turns.{turn_of, bad_of};
+ghost use Rattle.sk_lex.specs.Turns.{turn_of, bad_of, OnBad};
 ghost use Rattle.sk_lattice.specs.Padding.{unset_cell};
 ghost use Rattle.sk_table.specs.Meets.{are_known, Keeps, names_in};
 ghost use Rattle.sk_lattice.specs.declared.flow.AbsFlow.TheVariants as flow;
 ghost use Rattle.sk_table.specs.declared.expected.Expected.TheVariants as expected;
 ghost use Rattle.sk_table.specs.declared.fault.TableError.TheVariants as error;
 ghost use Rattle.sk_table.specs.Tuples as spec;
-ghost use Rattle.sk_table.specs.Tuples.{Reading, all_cells, element_at, ended, is_listed, is_none_word, next_sort, nothing, truths_named, truths_of, tuple_rules, widened, with_cell, with_element, with_flow, with_num, more_taken};
+ghost use Rattle.sk_table.specs.Tuples.{Reading, all_cells, element_at, ended, is_listed, is_none_word, next_sort, nothing, truths_named, truths_of, tuple_rules, widened, with_cell, with_element, with_flow, with_num, more_taken, names_of, names_refused, names_with};
 
 use crate::expected::Expected;
 use crate::fault::{Refusal, TableError};
@@ -151,6 +151,7 @@ fn give<D: NumDom>(reader: &mut TupleReader<D>, flow: AbsFlow<D>) -> Result<(), 
 fn truths<D: NumDom>(reader: &mut TupleReader<D>, lexeme: Lexeme, at: usize) -> Met
     ensures gives { Gives (λ taken. turn_of reader.new taken) bad_of result (spec.truths reader.old at (truths_of (symbol lexeme.entry))) }
     ensures kept { Keeps reader.old reader.new }
+    ensures names { OnBad result (reader.new.names ≡ reader.old.names) }
     ensures alone { IfOk result (λ taken. taken.more ≡ 0) }
 {
     let Some(set) = truths_at(lexeme) else {
@@ -175,6 +176,7 @@ pub(crate) fn is_none_word(lexeme: Lexeme) -> bool
 fn begin_store<D: NumDom>(reader: &mut TupleReader<D>, lexeme: Lexeme, at: usize) -> Met
     ensures gives { Gives (λ taken. turn_of reader.new taken) bad_of result (spec.begun reader.old at (symbol lexeme.entry)) }
     ensures kept { Keeps reader.old reader.new }
+    ensures names { OnBad result (reader.new.names ≡ reader.old.names) }
     ensures alone { IfOk result (λ taken. taken.more ≡ 0) }
 {
     if lexeme.is_left_brace() {
@@ -193,6 +195,7 @@ fn int<D: NumDom>(reader: &mut TupleReader<D>, text: &[u8], tokens: &[Token], at
     requires place { at < length tokens.now }
     ensures gives { Gives (λ taken. turn_of reader.new taken) bad_of result (with_element (λ element. with_flow reader.old (flow.Int element)) (expected.After ∷ []) (element_at D.texts at (drop at (symbols text.now tokens.now)))) }
     ensures kept { Keeps reader.old reader.new }
+    ensures names { OnBad result (reader.new.names ≡ reader.old.names) }
     ensures taken { IfOk result (λ taken. at + 1 + taken.more ≤ length tokens.now) }
 {
     let (element, more) = take(text, tokens, at)?;
@@ -215,6 +218,7 @@ fn number<D: NumDom>(
     requires place { at < length tokens.now }
     ensures gives { Gives (λ taken. turn_of reader.new taken) bad_of result (with_element (with_num reader.old) expected.entry.now (element_at D.texts at (drop at (symbols text.now tokens.now)))) }
     ensures kept { Keeps reader.old reader.new }
+    ensures names { OnBad result (reader.new.names ≡ reader.old.names) }
     ensures taken { IfOk result (λ taken. at + 1 + taken.more ≤ length tokens.now) }
 {
     let (element, more) = take(text, tokens, at)?;
@@ -237,6 +241,7 @@ fn value<D: NumDom>(
     requires place { at < length tokens.now }
     ensures gives { Gives (λ taken. turn_of reader.new taken) bad_of result (spec.value D.texts reader.old wanted at (symbol lexeme.entry) (drop (at + 1) (symbols text.now tokens.now))) }
     ensures kept { Keeps reader.old reader.new }
+    ensures names { OnBad result (reader.new.names ≡ reader.old.names) }
     ensures taken { IfOk result (λ taken. at + 1 + taken.more ≤ length tokens.now) }
 {
     match wanted {
@@ -282,6 +287,7 @@ fn item<D: NumDom>(
     requires place { at < length tokens.now }
     ensures gives { Gives (λ taken. turn_of reader.new taken) bad_of result (spec.item D.texts reader.old wanted at (symbol lexeme.entry) (drop (at + 1) (symbols text.now tokens.now))) }
     ensures kept { Keeps reader.old reader.new }
+    ensures names { OnBad result (reader.new.names ≡ reader.old.names) }
     ensures taken { IfOk result (λ taken. at + 1 + taken.more ≤ length tokens.now) }
 {
     let Some(wanted) = wanted else {
@@ -316,6 +322,7 @@ fn after<D: NumDom>(wanted: Option<FlowSort>, lexeme: Lexeme, at: usize) -> Met
 fn val_truth<D: NumDom>(reader: &mut TupleReader<D>, lexeme: Lexeme, at: usize) -> Met
     ensures gives { Gives (λ taken. turn_of reader.new taken) bad_of result (spec.val_truth reader.old at (truths_of (symbol lexeme.entry))) }
     ensures kept { Keeps reader.old reader.new }
+    ensures names { OnBad result (reader.new.names ≡ reader.old.names) }
     ensures alone { IfOk result (λ taken. taken.more ≡ 0) }
 {
     let Some(truth) = truths_at(lexeme) else {
@@ -334,6 +341,7 @@ fn val_truth<D: NumDom>(reader: &mut TupleReader<D>, lexeme: Lexeme, at: usize) 
 fn cell_truth<D: NumDom>(reader: &mut TupleReader<D>, lexeme: Lexeme, at: usize) -> Met
     ensures gives { Gives (λ taken. turn_of reader.new taken) bad_of result (spec.cell_truth reader.old at (truths_of (symbol lexeme.entry))) }
     ensures kept { Keeps reader.old reader.new }
+    ensures names { OnBad result (reader.new.names ≡ reader.old.names) }
     ensures alone { IfOk result (λ taken. taken.more ≡ 0) }
 {
     let Some(truth) = truths_at(lexeme) else {
@@ -361,6 +369,7 @@ fn all_cells<D: NumDom>(
 fn end_store<D: NumDom>(alloc: Global, reader: &mut TupleReader<D>) -> Met
     ensures gives { Gives (λ taken. turn_of reader.new taken) bad_of result (spec.met (ended D.domain reader.old) []) }
     ensures kept { Keeps reader.old reader.new }
+    ensures names { OnBad result (reader.new.names ≡ reader.old.names) }
     ensures alone { IfOk result (λ taken. taken.more ≡ 0) }
 {
     let cells = all_cells(alloc, reader.cells.take(alloc).as_slice())?;
@@ -409,6 +418,7 @@ fn name<D: NumDom>(alloc: Global, reader: &mut TupleReader<D>, lexeme: Lexeme, a
     requires word { IsShort lexeme }
     ensures gives { Gives (λ taken. turn_of reader.new taken) bad_of result (spec.name reader.old at (word_of (symbol lexeme.entry))) }
     ensures kept { Keeps reader.old reader.new }
+    ensures names { OnBad result (reader.new.names ≡ names_with reader.old.known reader.old.names (word_of (symbol lexeme.entry))) }
     ensures alone { IfOk result (λ taken. taken.more ≡ 0) }
 {
     let Some(word) = lexeme.word() else {
@@ -443,6 +453,7 @@ fn first_name<D: NumDom>(
     requires word { IsShort lexeme }
     ensures gives { Gives (λ taken. turn_of reader.new taken) bad_of result (spec.first_name D.domain reader.old at (symbol lexeme.entry)) }
     ensures kept { Keeps reader.old reader.new }
+    ensures names { OnBad result (reader.new.names ≡ names_with reader.old.known reader.old.names (word_of (symbol lexeme.entry))) }
     ensures alone { IfOk result (λ taken. taken.more ≡ 0) }
 {
     if lexeme.is_right_brace() {
@@ -462,6 +473,7 @@ fn after_name<D: NumDom>(
 ) -> Met
     ensures gives { Gives (λ taken. turn_of reader.new taken) bad_of result (spec.after_name D.domain reader.old at (symbol lexeme.entry)) }
     ensures kept { Keeps reader.old reader.new }
+    ensures names { OnBad result (reader.new.names ≡ reader.old.names) }
     ensures alone { IfOk result (λ taken. taken.more ≡ 0) }
 {
     if lexeme.is_comma() {
@@ -478,6 +490,7 @@ fn after_name<D: NumDom>(
 fn mark<D: NumDom>(alloc: Global, reader: &mut TupleReader<D>, lexeme: Lexeme, at: usize) -> Met
     ensures gives { Gives (λ taken. turn_of reader.new taken) bad_of result (spec.mark D.domain reader.old at (symbol lexeme.entry)) }
     ensures kept { Keeps reader.old reader.new }
+    ensures names { OnBad result (reader.new.names ≡ reader.old.names) }
     ensures alone { IfOk result (λ taken. taken.more ≡ 0) }
 {
     if lexeme.is_question() {
@@ -517,6 +530,7 @@ fn step<D: NumDom>(
     requires place { at < length tokens.now }
     ensures gives { Gives (λ taken. turn_of reader.new taken) bad_of result (spec.step D.domain D.texts reader.old expected at (symbol lexeme.entry) (drop (at + 1) (symbols text.now tokens.now))) }
     ensures kept { Keeps reader.old reader.new }
+    ensures names { OnBad result (reader.new.names ≡ names_refused expected reader.old (symbol lexeme.entry)) }
     ensures taken { IfOk result (λ taken. at + 1 + taken.more ≤ length tokens.now) }
 {
     let wanted = reader.next_sort();
@@ -546,6 +560,10 @@ impl<'a, D: NumDom> Reader for TupleReader<'a, D> {
     ghost within = { λ _. Unit {0} };
 
     ghost keeps = { Keeps };
+
+    ghost names = { names_of };
+
+    ghost names_refused = { names_refused };
 
     fn meet(
         &mut self,

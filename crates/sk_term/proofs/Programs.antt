@@ -9,7 +9,7 @@ use Rattle.sk_def.specs.declared.sorts.ArgSort.{ArgSort}
 use Rattle.sk_def.specs.declared.sorts.ArgSort.TheVariants as sort
 use Rattle.sk_def.specs.declared.def.Def.{Def}
 use Rattle.sk_term.specs.declared.node.TermNode.{TermNode}
-use Rattle.sk_term.specs.Terms.{Term, con, Args, none, number, name, term, node_count, nodes, nodes_from, nodes_of_args, IsWellSorted, HaveSorts, sort_of_node, arguments_of}
+use Rattle.sk_term.specs.Terms.{Term, con, Args, none, number, name, term, node_count, nodes, nodes_from, nodes_of_args, literals, IsWellSorted, HaveSorts, sort_of_node, arguments_of}
 use Rattle.sk_term.specs.Program.{Program, IsProgramOf, IsSortOfPoint, AreOfTerm, AreOfSortedTerm, number_leaves}
 use Rattle.sk_term.proofs.Nodes.{more_names, leaves_of_term}
 
@@ -40,14 +40,16 @@ mutual
 pub nodes_are_declared : {d : Def} {list : List TermNode} {leaves : List ℤ} {names : ℕ} → AreOfSortedTerm d list leaves names → All (IsDeclared d) list
 nodes_are_declared {d = d} a = let P : List TermNode → Type 0 = λ ns. All (IsDeclared d) ns in subst P (sym a.nodes_are) (are_declared d 0 a.whole a.well_sorted)
 
+-- what nodes tell of the number leaves are those of their term
+pub leaves_are_literals : (whole : Term) → number_leaves (nodes whole) ≡ literals whole
+leaves_are_literals whole = ap number_leaves (sym (append-nil (nodes whole))) ∙ ap (λ terms. front_of terms) (leaves_of_term 0 whole []) where
+  front_of : List (List ℤ) → List ℤ
+  front_of [] = []
+  front_of (first ∷ terms) = first
+
 -- the leaves that are kept are those of the nodes
 pub leaves_are_kept : {list : List TermNode} {leaves : List ℤ} {names : ℕ} → AreOfTerm list leaves names → leaves ≡ number_leaves list
-leaves_are_kept a =
-    a.leaves_are ∙ sym (ap number_leaves (a.nodes_are ∙ sym (append-nil (nodes a.whole))) ∙ ap (λ terms. front_of terms) (leaves_of_term 0 a.whole []))
-  where
-    front_of : List (List ℤ) → List ℤ
-    front_of [] = []
-    front_of (first ∷ terms) = first
+leaves_are_kept a = a.leaves_are ∙ sym (ap number_leaves a.nodes_are ∙ leaves_are_literals a.whole)
 
 pub by_more_names : {list : List TermNode} {leaves : List ℤ} {names : ℕ} (more : ℕ) → names ≤ more → AreOfTerm list leaves names → AreOfTerm list leaves more
 by_more_names {names = names} more h a = record {

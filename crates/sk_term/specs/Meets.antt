@@ -1,5 +1,5 @@
 -- What the code of a step means.
-use Rattle.std.specs.Prelude.{◌≡◌, ℕ, ◌≤◌, List, ◌++◌, length, Option, Some, None}
+use Rattle.std.specs.Prelude.{◌≡◌, ℕ, ◌≤◌, List, ◌++◌, length, Option, Some, None, Result, Ok, Err, ⊤}
 use Rattle.sk_term.specs.Reading.{Reading}
 use Rattle.sk_term.specs.declared.fault.TermError.{TermError}
 use Rattle.sk_term.specs.declared.fault.TermFault.{TermFault}
@@ -15,6 +15,17 @@ error_of NoMemory = None
 abbrev pub bad_of : TermFault → Option (TermError × ℕ)
 bad_of (fault.Bad error at) = Some (error, at)
 bad_of fault.NoMemory = None
+
+-- it holds after a refusal with an error
+abbrev pub OnRefusal : {A : Type 0} → Result A Refusal → Type 0 → Type 0
+OnRefusal (Err (Bad error)) P = P
+OnRefusal (Err NoMemory) P = ⊤
+OnRefusal (Ok value) P = ⊤
+
+abbrev pub OnFault : {A : Type 0} → Result A TermFault → Type 0 → Type 0
+OnFault (Err (fault.Bad error at)) P = P
+OnFault (Err fault.NoMemory) P = ⊤
+OnFault (Ok value) P = ⊤
 
 -- names were added, and those before them stay
 pub record HasGrown (before now : List (List ℕ)) : Type 0 where

@@ -91,3 +91,7 @@ number_leaves list = front (leaves_by_term list) where
   front : List (List ℤ) → List ℤ
   front [] = []
   front (first ∷ terms) = first
+
+-- they are those of the term that the nodes are of, from left to right
+abbrev pub LeavesAreLiterals : Type 0
+LeavesAreLiterals = (whole : Term) → number_leaves (nodes whole) ≡ literals whole

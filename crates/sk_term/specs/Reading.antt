@@ -3,7 +3,7 @@ use Rattle.std.specs.Prelude.{ℕ, ◌==◌, nat_lt, Bool, true, false, if◌the
 use Rattle.std.specs.Option.{option_map_or}
 use Rattle.sk_base.specs.Answer.{◌>>=◌}
 use Rattle.sk_base.specs.Names.{with_name}
-use Rattle.sk_lex.specs.Run.{Turn, Rules, run}
+use Rattle.sk_lex.specs.Run.{Turn, Rules, run, shown_at_stop}
 use Rattle.sk_lex.specs.Symbols.{Symbol, word_of, number_of, is_open, is_close, is_comma}
 use Rattle.sk_def.specs.Named.{con_named}
 use Rattle.sk_def.specs.declared.ids.ConId.{ConId}
@@ -154,6 +154,13 @@ term_rules = record {
   unexpected = Unexpected;
 }
 
+-- the names that stand, which a symbol that is refused leaves as they are
+abbrev pub names_of : Reading → List (List ℕ)
+names_of state = state.names
+
+abbrev pub names_refused : Expected → Reading → Symbol → List (List ℕ)
+names_refused expected state symbol = state.names
+
 -- nothing was read, and these names stand
 abbrev pub nothing : Def → List (List ℕ) → Reading
 nothing d names = record { def = d; nodes = []; literals = []; unclosed = []; names = names }
@@ -161,6 +168,10 @@ nothing d names = record { def = d; nodes = []; literals = []; unclosed = []; na
 -- One term from a place on: what was read and the place of the next symbol, or the code and its place.
 unfoldable pub read_symbols : Def → List (List ℕ) → ℕ → List Symbol → Result (Reading × ℕ) (TermError × ℕ)
 read_symbols d names at symbols = run term_rules 0 at (Root ∷ []) (nothing d names) symbols
+
+-- the names where the reading of one term stops: those that stood, and its own words in name positions up to there
+unfoldable pub names_at_stop : Def → List (List ℕ) → ℕ → List Symbol → List (List ℕ)
+names_at_stop d names at symbols = shown_at_stop term_rules names_refused names_of 0 at (Root ∷ []) (nothing d names) symbols
 
 -- the program's nodes and the names with its own
 pub record ReadTerm : Type 0 where

@@ -5,12 +5,14 @@
 mod arena;
 mod expected;
 mod fault;
+mod laws;
 mod node;
 mod read;
 mod reader;
 
 pub use arena::Arena;
 pub use fault::{TermError, TermFault};
+pub use laws::leaves_are_literals;
 pub use node::{Child, TermNode};
 pub use read::read_term;
 

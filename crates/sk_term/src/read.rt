@@ -4,10 +4,10 @@ ghost use Rattle.std.specs.Prelude.{◌≡◌, ◌≤◌, drop, length, IfOk, On
 ghost use Rattle.sk_base.specs.Answer.{Gives};
 ghost use Rattle.sk_lex.specs.Symbols.{symbols};
 ghost use Rattle.sk_lex.specs.Tokens.{tokens_of};
-ghost use Rattle.sk_lex.specs.Turns.{bad_of as refused_of};
-ghost use Rattle.sk_term.specs.Meets.{HasGrown, bad_of};
+ghost use Rattle.sk_lex.specs.Turns.{bad_of as refused_of, OnAnswer};
+ghost use Rattle.sk_term.specs.Meets.{HasGrown, bad_of, OnFault};
 ghost use Rattle.sk_term.specs.Program.{IsProgramOf, AreOfSortedTerm};
-ghost use Rattle.sk_term.specs.Reading.{read_term, read_symbols};
+ghost use Rattle.sk_term.specs.Reading.{read_term, read_symbols, names_at_stop};
 
 use crate::arena::Arena;
 use crate::expected::Expected;
@@ -21,7 +21,7 @@ use std::mem;
 
 /// Reads one term from a place of the tokens on, where these names stand. Answers the place of the next token, and what
 /// was read, also before a refusal.
-#[tactic(auto, unfolding(crate::specs::Reading::read_symbols))]
+#[tactic(auto, unfolding(crate::specs::Reading::read_symbols, crate::specs::Reading::names_at_stop))]
 fn read_with<'a>(
     alloc: Global,
     def: &'a Def,
@@ -37,6 +37,7 @@ fn read_with<'a>(
     ensures place { IfOk result.0 (λ at. at ≤ length tokens.now) }
     ensures term { OnOk result.0 (AreOfSortedTerm def.now result.1.nodes result.1.literals (length result.1.names)) }
     ensures grown { HasGrown names result.1.names }
+    ensures names { OnAnswer result.0 (result.1.names ≡ names_at_stop def.now names from (drop from (symbols text.now tokens.now))) }
 {
     let mut reader = TermReader::new(alloc, def, names);
     let end = read_on(alloc, &mut reader, &[Expected::Root], text, tokens, from);
@@ -44,10 +45,11 @@ fn read_with<'a>(
 }
 
 /// Reads one term from a place of the tokens on, and answers its program and the place of the next token. The words in
-/// name positions are added to the names, also those before a refusal. A refusal has the place of its token, which is
-/// the number of tokens at the end of the text: `Unexpected` where the token fits no case, `UnknownConstructor` at a
-/// word that names none, `WrongSort` at a constructor of another sort, `WrongCount` at a `)` too early or a `,` after
-/// the last argument, `TooManyPoints` at the 4,097th constructor, `TooManyNames` at the 65th different name.
+/// name positions are added to the names, also those before a refusal; where memory is refused the names only grow. A
+/// refusal has the place of its token, which is the number of tokens at the end of the text: `Unexpected` where the token
+/// fits no case, `UnknownConstructor` at a word that names none, `WrongSort` at a constructor of another sort,
+/// `WrongCount` at a `)` too early or a `,` after the last argument, `TooManyPoints` at the 4,097th constructor,
+/// `TooManyNames` at the 65th different name.
 #[tactic(auto, unfolding(crate::specs::Reading::read_term))]
 pub fn read_term(
     alloc: Global,
@@ -66,6 +68,9 @@ pub fn read_term(
     ensures over { IfOk result (λ read. read.0.names ≡ length names.new) }
     ensures place { IfOk result (λ read. read.1 ≤ length tokens.now) }
     ensures grown { HasGrown names.old names.new }
+
+    // After a refusal the names are those that stood and those read before the refused token.
+    ensures refused { OnFault result (names.new ≡ names_at_stop def.now names.old from (drop from (symbols text.now tokens.now))) }
 {
     let (end, reader) = read_with(
         alloc,

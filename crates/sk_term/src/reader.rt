@@ -5,8 +5,8 @@ ghost use Rattle.sk_base.specs.Answer.{Gives};
 ghost use Rattle.sk_def.specs.declared.def.Def.{Def};
 ghost use Rattle.sk_lex.specs.Symbols.{symbol, IsShort, word_of, number_of};
 ghost use Rattle.sk_term.specs.Reading as spec;
-ghost use Rattle.sk_term.specs.Meets.{error_of, HasGrown, IsWithin, Keeps};
-ghost use Rattle.sk_term.specs.Reading.{Reading, turn_to, nothing, begun, ended, term_rules, with_child, has_sort, next_sort};
+ghost use Rattle.sk_term.specs.Meets.{error_of, HasGrown, IsWithin, Keeps, OnRefusal};
+ghost use Rattle.sk_term.specs.Reading.{Reading, turn_to, nothing, begun, ended, term_rules, names_of, names_refused, with_child, has_sort, next_sort};
 ghost use Rattle.sk_term.specs.Terms.{arguments_of, sort_of_con};
 
 use crate::expected::{Expected, OpenTerm};
@@ -159,6 +159,7 @@ fn root(alloc: Global, reader: &mut TermReader, lexeme: Lexeme) -> Met
     requires within { IsWithin reader.old }
     ensures gives { Gives (λ next. turn_to reader.new next.now) error_of result (spec.root reader.old (word_of (symbol lexeme.entry))) }
     ensures kept { Keeps reader.old reader.new }
+    ensures names { OnRefusal result (reader.new.names ≡ reader.old.names) }
 {
     let Some(word) = lexeme.word() else {
         return Err(Refusal::Bad(TermError::Unexpected));
@@ -174,6 +175,7 @@ fn subterm(alloc: Global, reader: &mut TermReader, wanted: SortId, lexeme: Lexem
     requires within { IsWithin reader.old }
     ensures gives { Gives (λ next. turn_to reader.new next.now) error_of result (spec.subterm reader.old wanted (word_of (symbol lexeme.entry))) }
     ensures kept { Keeps reader.old reader.new }
+    ensures names { OnRefusal result (reader.new.names ≡ reader.old.names) }
 {
     let Some(word) = lexeme.word() else {
         return Err(Refusal::Bad(TermError::Unexpected));
@@ -190,6 +192,7 @@ fn subterm(alloc: Global, reader: &mut TermReader, wanted: SortId, lexeme: Lexem
 fn number(reader: &mut TermReader, lexeme: Lexeme) -> Met
     ensures gives { Gives (λ next. turn_to reader.new next.now) error_of result (spec.number reader.old (number_of (symbol lexeme.entry))) }
     ensures kept { Keeps reader.old reader.new }
+    ensures names { OnRefusal result (reader.new.names ≡ reader.old.names) }
 {
     let Some(value) = lexeme.number() else {
         return Err(Refusal::Bad(TermError::Unexpected));
@@ -205,6 +208,7 @@ fn name(alloc: Global, reader: &mut TermReader, lexeme: Lexeme) -> Met
     requires word { IsShort lexeme }
     ensures gives { Gives (λ next. turn_to reader.new next.now) error_of result (spec.name reader.old (word_of (symbol lexeme.entry))) }
     ensures kept { Keeps reader.old reader.new }
+    ensures names { OnRefusal result (reader.new.names ≡ reader.old.names) }
 {
     let Some(word) = lexeme.word() else {
         return Err(Refusal::Bad(TermError::Unexpected));
@@ -225,6 +229,7 @@ fn argument(alloc: Global, reader: &mut TermReader, wanted: ArgSort, lexeme: Lex
     requires word { IsShort lexeme }
     ensures gives { Gives (λ next. turn_to reader.new next.now) error_of result (spec.argument reader.old wanted (symbol lexeme.entry)) }
     ensures kept { Keeps reader.old reader.new }
+    ensures names { OnRefusal result (reader.new.names ≡ reader.old.names) }
 {
     match wanted {
         ArgSort::Number => number(reader, lexeme),
@@ -251,6 +256,7 @@ fn first(alloc: Global, reader: &mut TermReader, wanted: Option<ArgSort>, lexeme
     requires word { IsShort lexeme }
     ensures gives { Gives (λ next. turn_to reader.new next.now) error_of result (spec.first reader.old wanted (symbol lexeme.entry)) }
     ensures kept { Keeps reader.old reader.new }
+    ensures names { OnRefusal result (reader.new.names ≡ reader.old.names) }
 {
     let Some(wanted) = wanted else {
         return close(reader, lexeme);
@@ -265,6 +271,7 @@ fn first(alloc: Global, reader: &mut TermReader, wanted: Option<ArgSort>, lexeme
 fn close(reader: &mut TermReader, lexeme: Lexeme) -> Met
     ensures gives { Gives (λ next. turn_to reader.new next.now) error_of result (spec.closing reader.old (symbol lexeme.entry)) }
     ensures kept { Keeps reader.old reader.new }
+    ensures names { OnRefusal result (reader.new.names ≡ reader.old.names) }
 {
     if !lexeme.is_close() {
         return Err(Refusal::Bad(TermError::Unexpected));
@@ -278,6 +285,7 @@ fn close(reader: &mut TermReader, lexeme: Lexeme) -> Met
 fn after(reader: &mut TermReader, wanted: Option<ArgSort>, lexeme: Lexeme) -> Met
     ensures gives { Gives (λ next. turn_to reader.new next.now) error_of result (spec.after reader.old wanted (symbol lexeme.entry)) }
     ensures kept { Keeps reader.old reader.new }
+    ensures names { OnRefusal result (reader.new.names ≡ reader.old.names) }
 {
     let Some(_) = wanted else {
         if lexeme.is_comma() {
@@ -301,6 +309,7 @@ fn next(alloc: Global, reader: &mut TermReader, wanted: Option<ArgSort>, lexeme:
     requires word { IsShort lexeme }
     ensures gives { Gives (λ next. turn_to reader.new next.now) error_of result (spec.next reader.old wanted (symbol lexeme.entry)) }
     ensures kept { Keeps reader.old reader.new }
+    ensures names { OnRefusal result (reader.new.names ≡ reader.old.names) }
 {
     let Some(wanted) = wanted else {
         return Err(Refusal::Bad(TermError::Unexpected));
@@ -315,6 +324,7 @@ fn step(alloc: Global, reader: &mut TermReader, expected: Expected, lexeme: Lexe
     requires word { IsShort lexeme }
     ensures gives { Gives (λ next. turn_to reader.new next.now) error_of result (spec.step reader.old expected (symbol lexeme.entry)) }
     ensures kept { Keeps reader.old reader.new }
+    ensures names { OnRefusal result (reader.new.names ≡ reader.old.names) }
 {
     let wanted = reader.next_sort();
     match expected {
@@ -336,6 +346,10 @@ impl<'a> Reader for TermReader<'a> {
     ghost within = { IsWithin };
 
     ghost keeps = { Keeps };
+
+    ghost names = { names_of };
+
+    ghost names_refused = { names_refused };
 
     fn meet(
         &mut self,
