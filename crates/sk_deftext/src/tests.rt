@@ -77,6 +77,70 @@ hook go() t -> ()
 rule go c() () {
 ";
 
+const ABOVE: &[u8] = b"skel 1
+sort t
+con c : t()
+hook go() t -> ()
+";
+
+/// Lists on line 5: what stands before, an entry, what stands after, how many may stand, the column of one more.
+const LISTS: [(&[u8], &[u8], &[u8], u8, u32, Which); 3] = [
+    (b"con d : t(", b"number", b")", 8, 75, Which::Arguments),
+    (b"hook h(", b"int", b") t -> ()", 4, 28, Which::Flows),
+    (b"hook h() t -> (", b"int", b")", 4, 36, Which::Flows),
+];
+
+/// Lists of variables on line 5: what stands before and after, and the column of the ninth.
+const VARIABLES: [(&[u8], &[u8], u32); 6] = [
+    (b"rule go c(", b") () { } -> ()", 35),
+    (b"rule go c() (", b") { } -> ()", 38),
+    (b"rule go c() () { } -> (", b")", 48),
+    (b"rule go c() () { add(", b") -> () } -> ()", 46),
+    (b"rule go c() () { add() -> (", b") } -> ()", 52),
+    (
+        b"rule go c() () { either { } or { } with (",
+        b") } -> ()",
+        66,
+    ),
+];
+
+/// Lines, a name for each `#`: what stands above, the line, what stands below, how many may stand, the place of one more.
+const LINES: [(&[u8], &[u8], &[u8], u8, (u32, u32), Which); 5] = [
+    (b"skel 1\n", b"sort x#\n", b"", 16, (18, 6), Which::Sorts),
+    (
+        b"skel 1\nsort t\n",
+        b"con x# : t()\n",
+        b"",
+        128,
+        (131, 5),
+        Which::Constructors,
+    ),
+    (
+        b"skel 1\nsort t\n",
+        b"hook x#() t -> ()\n",
+        b"",
+        8,
+        (11, 6),
+        Which::Hooks,
+    ),
+    (
+        RULE,
+        b"zero() -> (x#, y#)\n",
+        b"} -> ()\n",
+        32,
+        (38, 12),
+        Which::Variables,
+    ),
+    (
+        b"skel 1\nsort t\ncon c : t()\nhook go() t -> ()\nrule go c() () { either {\n",
+        b"zero() -> (a)\n",
+        b"} or { } with () } -> ()\n",
+        63,
+        (69, 1),
+        Which::Bones,
+    ),
+];
+
 /// A text with repeated lines in it.
 fn repeated(
     alloc: Global,
@@ -146,6 +210,77 @@ fn at(line: u32, column: u32) -> Place {
     Place { line, column }
 }
 
+/// Entries in a row, and what stands round them.
+#[derive(Clone, Copy)]
+struct Row {
+    above: &'static [u8],
+    before: &'static [u8],
+    entry: &'static [u8],
+    between: &'static [u8],
+    after: &'static [u8],
+}
+
+/// A list on line 5.
+fn list(before: &'static [u8], entry: &'static [u8], after: &'static [u8]) -> Row {
+    Row {
+        above: ABOVE,
+        before,
+        entry,
+        between: b", ",
+        after,
+    }
+}
+
+/// Appends an entry, with two letters of its own for each `#`.
+fn put_entry(text: &mut Vec<u8>, entry: &[u8], number: u8) -> Result<(), NoMemory> {
+    for byte in entry {
+        if *byte == b'#' {
+            text.push(b'a' + number / 16)?;
+            text.push(b'a' + number % 16)?;
+        } else {
+            text.push(*byte)?;
+        }
+    }
+    Ok(())
+}
+
+/// The text with so many entries.
+fn with_entries(alloc: Global, row: Row, count: u8) -> Result<Vec<u8>, NoMemory> {
+    let mut text = Vec::from_slice(alloc, row.above)?;
+    text.extend_from_slice(row.before)?;
+    for number in 0..count {
+        if number > 0 {
+            text.extend_from_slice(row.between)?;
+        }
+        put_entry(&mut text, row.entry, number)?;
+    }
+    text.extend_from_slice(row.after)?;
+    Ok(text)
+}
+
+/// What is read of so many entries, which are few.
+fn answer(alloc: Global, row: Row, count: u8) -> Result<(), DefFault> {
+    let text = with_entries(alloc, row, count)?;
+    if text.len() >= 10_000 {
+        return Err(DefFault::NoMemory);
+    }
+    read_def(alloc, text.as_slice())?;
+    Ok(())
+}
+
+/// What is read of the most entries and of one more.
+fn around(alloc: Global, row: Row, most: u8) -> [Result<(), DefFault>; 2] {
+    [
+        answer(alloc, row, most),
+        answer(alloc, row, most.saturating_add(1)),
+    ]
+}
+
+/// What is to be read: the most entries, and a fault of one more.
+fn up_to(line: u32, column: u32, which: Which) -> [Result<(), DefFault>; 2] {
+    [Ok(()), Err(DefFault::TooMany(at(line, column), which))]
+}
+
 #[test]
 fn reads_and_refuses(rt: HostRuntime) -> Result<(), Fail> {
     let alloc = rt.alloc();
@@ -207,5 +342,49 @@ fn prints_and_counts(rt: HostRuntime) -> Result<(), Fail> {
         fault(alloc, 9, b"either {\n", b"} or { } with ()\n"),
         Some(DefFault::TooMany(at(14, 1), Which::Nesting))
     );
+    Ok(())
+}
+
+#[test]
+fn lists_have_limits(rt: HostRuntime) -> Result<(), Fail> {
+    let alloc = rt.alloc();
+    for (before, entry, after, most, column, which) in LISTS {
+        let row = list(before, entry, after);
+        assert_eq!(rt; around(alloc, row, most), up_to(5, column, which));
+    }
+    for (before, after, column) in VARIABLES {
+        let row = list(before, b"v", after);
+        assert_eq!(rt; around(alloc, row, 8), up_to(5, column, Which::Arguments));
+    }
+    Ok(())
+}
+
+#[test]
+fn lines_have_limits(rt: HostRuntime) -> Result<(), Fail> {
+    let alloc = rt.alloc();
+    for (above, entry, after, most, (line, column), which) in LINES {
+        let row = Row {
+            above,
+            before: b"",
+            entry,
+            between: b"",
+            after,
+        };
+        assert_eq!(rt; around(alloc, row, most), up_to(line, column, which));
+    }
+    Ok(())
+}
+
+#[test]
+fn branches_have_a_limit(rt: HostRuntime) -> Result<(), Fail> {
+    let alloc = rt.alloc();
+    let row = Row {
+        above: RULE,
+        before: b"either ",
+        entry: b"{ }",
+        between: b" or ",
+        after: b" with ()\n} -> ()\n",
+    };
+    assert_eq!(rt; around(alloc, row, 8), up_to(6, 64, Which::Branches));
     Ok(())
 }
