@@ -5,7 +5,6 @@ use Rattle.sk_lattice.specs.Domain.{Domain}
 use Rattle.sk_lattice.specs.DomainTexts.{DomainTexts}
 use Rattle.sk_table.specs.declared.triple.Triple.{Triple}
 use Rattle.sk_table.specs.declared.triple.Cover.{Cover}
-use Rattle.sk_bench.specs.declared.accept.TheConstants.{LIMIT, TABLE_LIMIT}
 use Rattle.sk_sign.specs.Signs.{sign_domain}
 use Rattle.sk_sign.specs.Texts.{sign_texts}
 use Rattle.sk_interval.specs.Intervals.{interval_domain}
@@ -28,6 +27,13 @@ use Rattle.sk_bench.specs.Plan.{Plan, Write, Read, WriteAnswer}
 use Rattle.sk_bench.specs.Refused.{Refused, refused_line, missing}
 use Rattle.sk_bench.specs.Surveys.{Survey}
 use Rattle.sk_bench.specs.Words.{command_of}
+
+-- the greatest number of bytes of a definition or a job, and of a table
+abbrev pub text_limit : ℕ
+text_limit = 4194304
+
+abbrev pub table_limit : ℕ
+table_limit = 16777216
 
 -- a word by its place
 abbrev pub word_at : List (List ℕ) → ℕ → List ℕ
@@ -91,7 +97,7 @@ job_on command d text = on_accepted Job (codes "job") (job_plan command d text) 
 
 -- what it does with the text of its definition: it reads the job of this name
 abbrev pub definition_on : JobCommand → List ℕ → List ℕ → Plan
-definition_on command job text = on_definition (λ d. Read job LIMIT (job_on command d)) text
+definition_on command job text = on_definition (λ d. Read job text_limit (job_on command d)) text
 
 -- a table over a job, with the job's cover lines of its domain
 abbrev pub trial : {D : Type 0} → Def → ReadJob → List (Cover D) → List (Triple D) → Trial D
@@ -109,20 +115,20 @@ verify_table Interval d job text = on_table interval_domain interval_texts d job
 -- what `verify` does with the text of its job: it reads the table of this name
 abbrev pub verify_job : List ℕ → DomainWord → Def → List ℕ → Plan
 verify_job table domain d text =
-    on_accepted Job (codes "job") (λ job. Read table TABLE_LIMIT (verify_table domain d job)) (accepted_job d text)
+    on_accepted Job (codes "job") (λ job. Read table table_limit (verify_table domain d job)) (accepted_job d text)
 
 -- what `verify` does with the text of its definition: it reads the job of this name
 abbrev pub verify_on : List ℕ → List ℕ → DomainWord → List ℕ → Plan
-verify_on job table domain text = on_definition (λ d. Read job LIMIT (verify_job table domain d)) text
+verify_on job table domain text = on_definition (λ d. Read job text_limit (verify_job table domain d)) text
 
 -- the plan of a command with these words
 unfoldable pub plan_of : List (List ℕ) → Command → Plan
-plan_of words Check = Read (word_at words 1) LIMIT check_on
-plan_of words (Run depth) = Read (word_at words 1) LIMIT (definition_on (command.Run depth) (word_at words 2))
-plan_of words (Constrain domain) = Read (word_at words 1) LIMIT (definition_on (command.Constrain domain) (word_at words 2))
-plan_of words (Analyse domain) = Read (word_at words 1) LIMIT (definition_on (command.Analyse domain) (word_at words 2))
-plan_of words Solve = Read (word_at words 1) LIMIT (definition_on command.Solve (word_at words 2))
-plan_of words (Verify domain) = Read (word_at words 1) LIMIT (verify_on (word_at words 2) (word_at words 4) domain)
+plan_of words Check = Read (word_at words 1) text_limit check_on
+plan_of words (Run depth) = Read (word_at words 1) text_limit (definition_on (command.Run depth) (word_at words 2))
+plan_of words (Constrain domain) = Read (word_at words 1) text_limit (definition_on (command.Constrain domain) (word_at words 2))
+plan_of words (Analyse domain) = Read (word_at words 1) text_limit (definition_on (command.Analyse domain) (word_at words 2))
+plan_of words Solve = Read (word_at words 1) text_limit (definition_on command.Solve (word_at words 2))
+plan_of words (Verify domain) = Read (word_at words 1) text_limit (verify_on (word_at words 2) (word_at words 4) domain)
 
 -- the plan that the words ask for, if they are a command
 abbrev pub planned : List (List ℕ) → Option Plan

@@ -1,23 +1,23 @@
 -- A command follows its plan up to the text that it is to write, or stops for a cause.
 use Rattle.std.specs.Prelude.{◌≡◌, ℕ, Result, Ok, Err, ⊤}
 use Rattle.sk_base.specs.Causes.{Rose}
-use Rattle.sk_base.specs.Files.{Folder, Selection}
+use Rattle.sk_base.specs.Files.{Folder, Selection, progress_of}
 use Rattle.sk_bench.specs.declared.status.Output.{Output}
 use Rattle.sk_bench.specs.declared.status.Stop.{Stop}
 use Rattle.sk_bench.specs.declared.status.Stop.TheVariants as stop
 use Rattle.sk_bench.specs.Asked.{IsAnswer, Means}
-use Rattle.sk_bench.specs.Plan.{Plan, Write, Read, WriteAnswer, Ended, Reaches, Agrees, IsShaky, GaveTooMuch}
+use Rattle.sk_bench.specs.Plan.{Plan, Write, Read, WriteAnswer, Ended, Stops, IsShaky, GaveTooMuch}
 
 -- why a command may stop
-abbrev pub HasStopped : Folder → Selection → ℕ → ℕ → Plan → Stop → Type 0
-HasStopped folder now before after plan stop.ReadFault = Rose before after × Reaches (Agrees folder) (IsShaky folder) plan
-HasStopped folder now before after plan stop.TooLong = Reaches (Agrees folder) (GaveTooMuch folder now.given) plan
-HasStopped folder now before after plan stop.NoMemory = ⊤
+abbrev pub HasStopped : Folder → Selection → Selection → ℕ → ℕ → Plan → Stop → Type 0
+HasStopped folder was now before after plan stop.ReadFault = Rose before after × Stops folder (IsShaky folder) now.turns was.turns plan
+HasStopped folder was now before after plan stop.TooLong = Stops folder (GaveTooMuch folder now.given) now.turns was.turns plan
+HasStopped folder was now before after plan stop.NoMemory = ⊤
 
 -- the text is that of the plan, over what the files gave, or the command stopped
 abbrev pub Follows : Folder → Selection → Selection → ℕ → ℕ → Plan → Result Output Stop → Type 0
-Follows folder was now before after plan (Ok output) = Ended folder now.given was.given plan output.ending output.text.items
-Follows folder was now before after plan (Err stop) = HasStopped folder now before after plan stop
+Follows folder was now before after plan (Ok output) = Ended folder (progress_of now) (progress_of was) plan output.ending output.text.items
+Follows folder was now before after plan (Err stop) = HasStopped folder was now before after plan stop
 
 -- without any more files, the text is that of the plan, or memory was refused
 abbrev pub Prepares : Plan → Result Output Stop → Type 0

@@ -1,6 +1,6 @@
 -- What a command does with the outside: it reads files one after another, each as the ones before say, and then writes a text.
 use Rattle.std.specs.Prelude.{◌≡◌, ◌⊎◌, ℕ, ◌+◌, ◌<◌, ◌≤◌, IsTrue, IsFalse, IfSome, List, length, Some}
-use Rattle.sk_base.specs.Files.{Folder}
+use Rattle.sk_base.specs.Files.{Folder, Progress, read_once, turn_after}
 use Rattle.sk_bench.specs.declared.status.Ending.{Ending}
 use Rattle.sk_bench.specs.Asked.{Asked, IsAnswer, Means}
 
@@ -23,14 +23,14 @@ IsTold folder name bytes = folder.told name ≡ Some bytes
 abbrev pub IsSteady : Folder → List ℕ → List ℕ → Type 0
 IsSteady folder name bytes = IsTrue (folder.steady name) × (folder.told name ≡ Some bytes)
 
--- the plan came to its end with this text: each file whose turn came had bytes within its limit, those that it tells where
--- it tells them, and gave just so many; so the last one's number is what the selection now says, and `gave` is that of the
--- file before. Where the text answers what was asked, what it says is so
-abbrev pub Ended : Folder → ℕ → ℕ → Plan → Ending → List ℕ → Type 0
-Ended folder given gave (Write as_said said) ending text = (ending ≡ as_said) × (text ≡ said) × (given ≡ gave)
-Ended folder given gave (Read name limit next) ending text =
-    (bytes : List ℕ) × Agrees folder name bytes × (length bytes ≤ limit) × Ended folder given (length bytes) (next bytes) ending text
-Ended folder given gave (WriteAnswer asked) ending text = IsAnswer asked ending text × Means asked ending × (given ≡ gave)
+-- the plan came to its end with this text: each file whose turn came had bytes within its limit, those that it tells where it
+-- tells them, was selected once, and gave just so many; no other file was selected. So `now` is what stands after the last
+-- one, where `was` stood before the first. Where the text answers what was asked, what it says is so
+abbrev pub Ended : Folder → Progress → Progress → Plan → Ending → List ℕ → Type 0
+Ended folder now was (Write as_said said) ending text = (ending ≡ as_said) × (text ≡ said) × (now ≡ was)
+Ended folder now was (Read name limit next) ending text =
+    (bytes : List ℕ) × Agrees folder name bytes × (length bytes ≤ limit) × Ended folder now (read_once was (length bytes)) (next bytes) ending text
+Ended folder now was (WriteAnswer asked) ending text = IsAnswer asked ending text × Means asked ending × (now ≡ was)
 
 -- the files say that the plan ends with this text: each whose turn comes has bytes of which P holds, within its limit
 abbrev pub Ends : (List ℕ → List ℕ → Type 0) → Plan → Ending → List ℕ → Type 0
@@ -43,6 +43,22 @@ abbrev pub Reaches : (List ℕ → List ℕ → Type 0) → (List ℕ → ℕ �
 Reaches P Q (Write ending text) = ⊥
 Reaches P Q (Read name limit next) = Q name limit ⊎ ((bytes : List ℕ) × P name bytes × (length bytes ≤ limit) × Reaches P Q (next bytes))
 Reaches P Q (WriteAnswer asked) = ⊥
+
+-- the turn comes of a file of which Q holds, after files that gave bytes within their limits, and each of them was selected
+-- once, and no other file
+abbrev pub Stops : Folder → (List ℕ → ℕ → Type 0) → ℕ → ℕ → Plan → Type 0
+Stops folder Q now was (Write ending text) = ⊥
+Stops folder Q now was (Read name limit next) =
+    (Q name limit × (now ≡ turn_after was))
+    ⊎ ((bytes : List ℕ) × Agrees folder name bytes × (length bytes ≤ limit) × Stops folder Q now (turn_after was) (next bytes))
+Stops folder Q now was (WriteAnswer asked) = ⊥
+
+-- each file whose turn comes has bytes of which P holds, within its limit, and every text with which the plan may end has at
+-- most so many bytes
+abbrev pub Leads : (List ℕ → List ℕ → Type 0) → ℕ → Plan → Type 0
+Leads P room (Write ending text) = length text ≤ room
+Leads P room (Read name limit next) = (bytes : List ℕ) × P name bytes × (length bytes ≤ limit) × Leads P room (next bytes)
+Leads P room (WriteAnswer asked) = (ending : Ending) (text : List ℕ) → IsAnswer asked ending text → length text ≤ room
 
 -- the file isn't steady
 abbrev pub IsShaky : Folder → List ℕ → ℕ → Type 0

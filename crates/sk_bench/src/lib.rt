@@ -35,4 +35,8 @@ pub use top::workbench;
 pub use words::command;
 
 #[cfg(test)]
+mod call_tests;
+#[cfg(test)]
+mod row_tests;
+#[cfg(test)]
 mod tests;

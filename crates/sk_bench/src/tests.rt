@@ -5,7 +5,7 @@ use std::alloc::Global;
 use std::str;
 use std::test::Fail;
 
-const DEFINITION: &str = "skel 1
+pub(crate) const DEFINITION: &str = "skel 1
 sort expr
 con num : expr(number)
 con plus : expr(expr, expr)
@@ -18,7 +18,7 @@ rule eval plus(a, b) () {
 } -> (z)
 ";
 
-const JOB: &str = "job 1
+pub(crate) const JOB: &str = "job 1
 program plus(num(1), num(2))
 start eval 0 ()
 cover sign eval 0 ()
@@ -33,7 +33,7 @@ results 1
 ";
 
 /// The words of a line.
-fn words(alloc: Global, line: &str) -> Result<Vec<String>, NoMemory> {
+pub(crate) fn words(alloc: Global, line: &str) -> Result<Vec<String>, NoMemory> {
     let mut words = Vec::new(alloc);
     for word in line.split_ascii_whitespace() {
         words.push(String::from_str(alloc, word)?)?;
@@ -359,7 +359,7 @@ fn jobs_are_read(rt: HostRuntime) -> Result<(), Fail> {
 }
 
 /// A definition with choices, and one with states and branches.
-const CHOICE: &str = "skel 1
+pub(crate) const CHOICE: &str = "skel 1
 sort t
 con toss : t()
 con span : t(number, number)
@@ -443,16 +443,28 @@ fn spaces(alloc: Global, count: usize) -> Result<Vec<u8>, NoMemory> {
 #[test]
 fn files_have_a_limit(rt: HostRuntime) -> Result<(), Fail> {
     let alloc = rt.alloc();
-    for (count, wanted) in [
-        (4_194_304, Status::Definition),
-        (4_194_305, Status::TooLong),
-    ] {
+    let mut files = MemFiles::new(alloc, &[])?;
+    files.hold("d", spaces(alloc, 4_194_304)?.as_slice())?;
+    let mut sink = MemSink::new(alloc, 100, &[])?;
+    let words = words(alloc, "check d")?;
+    let status = workbench(alloc, words.as_slice(), &mut files, &mut sink);
+    let written = "refused definition 1:4194305 Unexpected\n";
+    assert_eq!(rt; str::from_utf8(sink.written()), Ok(written));
+    assert_eq!(rt; status, Status::Definition);
+    Ok(())
+}
+
+#[test]
+fn longer_files_are_not_read(rt: HostRuntime) -> Result<(), Fail> {
+    let alloc = rt.alloc();
+    for line in ["check d", "run d j 1"] {
         let mut files = MemFiles::new(alloc, &[])?;
-        files.hold("d", spaces(alloc, count)?.as_slice())?;
+        files.hold("d", spaces(alloc, 4_194_305)?.as_slice())?;
         let mut sink = MemSink::new(alloc, 100, &[])?;
-        let words = words(alloc, "check d")?;
+        let words = words(alloc, line)?;
         let status = workbench(alloc, words.as_slice(), &mut files, &mut sink);
-        assert_eq!(rt; status, wanted, "{count}");
+        assert_eq!(rt; (status, status.number()), (Status::TooLong, 9), "{line}");
+        assert_eq!(rt; sink.written().len(), 0, "{line}");
     }
     Ok(())
 }

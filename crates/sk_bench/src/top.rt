@@ -1,13 +1,14 @@
 //! The top call.
 ghost use Rattle.std.specs.Prelude.{◌≡◌, ◌↔◌, [], ◌∷◌, None, IfSome, map, string_bytes};
 ghost use Rattle.sk_base.specs.Causes.{Rose, NeverFalls};
+ghost use Rattle.sk_base.specs.Files.{progress_of};
 ghost use Rattle.sk_bench.specs.declared.status.Ending.{Ending};
 ghost use Rattle.sk_bench.specs.Status.{status_of};
-ghost use Rattle.sk_bench.specs.Plan.{Reaches, Agrees, IsShaky, GaveTooMuch};
+ghost use Rattle.sk_bench.specs.Plan.{Stops, IsShaky, GaveTooMuch};
 ghost use Rattle.sk_bench.specs.Commands.{planned, plan_of, word_at};
 ghost use Rattle.sk_bench.specs.Words.{command_of};
 ghost use Rattle.sk_bench.specs.Following.{Follows};
-ghost use Rattle.sk_bench.specs.Headline.{IsOneOf, Writes, WritesPrefix, EndsAsTold, StopsAsTold, IsComplete, IsCompleteTooLong};
+ghost use Rattle.sk_bench.specs.Headline.{IsOneOf, Writes, WritesPrefix, EndsAsTold, StopsAsTold, IsComplete, IsCompleteTooLong, IsFaultless};
 
 use crate::check::check;
 use crate::job_command::on_job;
@@ -26,32 +27,35 @@ pub fn workbench<F: Files, S: Sink>(
     files: &mut F,
     sink: &mut S,
 ) -> Status
-    // The words are no command.
+    // The words are no command, and the files are left alone.
     ensures usage { (result ≡ Status.Usage) ↔ (command_of (map string_bytes words.now) ≡ None) }
+    ensures idle { result ≡ Status.Usage → files.new ≡ files.old }
 
-    // The status and what was written are those of the command's plan over what the files told, exactly there.
+    // The status and what was written are those of the command's plan over what the files told, exactly there. Each file whose
+    // turn came was selected once, and no other.
     ensures written { (ending : Ending) → result ≡ status_of ending → IfSome (planned (map string_bytes words.now)) (λ plan.
-        Writes (F.folder files.old) (F.selection files.new).given (F.selection files.old).given plan ending (S.written sink.old) (S.written sink.new)) }
+        Writes (F.folder files.old) (progress_of (F.selection files.new)) (progress_of (F.selection files.old)) plan ending (S.written sink.old) (S.written sink.new)) }
     ensures exact { IfSome (planned (map string_bytes words.now)) (λ plan. EndsAsTold (F.folder files.old) plan result) }
 
     // The file whose turn it is is too long exactly where it gave one byte more than its limit: else each file gave at most so
     // many, as `written` and `prefix` say.
     ensures too_long { result ≡ Status.TooLong →
-        IfSome (planned (map string_bytes words.now)) (λ plan. Reaches (Agrees (F.folder files.old)) (GaveTooMuch (F.folder files.old) (F.selection files.new).given) plan) }
+        IfSome (planned (map string_bytes words.now)) (λ plan. Stops (F.folder files.old) (GaveTooMuch (F.folder files.old) (F.selection files.new).given) (F.selection files.new).turns (F.selection files.old).turns plan) }
     ensures limit { IfSome (planned (map string_bytes words.now)) (λ plan. StopsAsTold (F.folder files.old) plan result) }
 
     // Faults have causes.
     ensures read_fault { result ≡ Status.ReadFault → Rose (F.faults files.old) (F.faults files.new) }
     ensures shaky { result ≡ Status.ReadFault →
-        IfSome (planned (map string_bytes words.now)) (λ plan. Reaches (Agrees (F.folder files.old)) (IsShaky (F.folder files.old)) plan) }
+        IfSome (planned (map string_bytes words.now)) (λ plan. Stops (F.folder files.old) (IsShaky (F.folder files.old)) (F.selection files.new).turns (F.selection files.old).turns plan) }
     ensures write_fault { result ≡ Status.WriteFault → Rose (S.faults sink.old) (S.faults sink.new) }
     ensures prefix { result ≡ Status.WriteFault → IfSome (planned (map string_bytes words.now)) (λ plan.
-        WritesPrefix (F.folder files.old) (F.selection files.new).given (F.selection files.old).given plan (S.room sink.old) (S.written sink.old) (S.written sink.new)) }
+        WritesPrefix (F.folder files.old) (progress_of (F.selection files.new)) (progress_of (F.selection files.old)) plan (S.room sink.old) (S.written sink.old) (S.written sink.new)) }
 
     // Nothing was put.
     ensures silent { IsOneOf result (Status.Usage ∷ Status.ReadFault ∷ Status.TooLong ∷ Status.NoMemory ∷ []) → sink.new ≡ sink.old }
 
     // With steady files and room, only want of memory stands in the way.
+    ensures faultless { IfSome (planned (map string_bytes words.now)) (λ plan. IsFaultless (F.folder files.old) plan (S.room sink.old) result) }
     ensures complete { IfSome (planned (map string_bytes words.now)) (λ plan. IsComplete (F.folder files.old) plan (S.room sink.old) result) }
     ensures complete_too_long { IfSome (planned (map string_bytes words.now)) (λ plan. IsCompleteTooLong (F.folder files.old) plan result) }
 {
