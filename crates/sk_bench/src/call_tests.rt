@@ -52,7 +52,6 @@ fn job(alloc: Global, checked: &Checked, text: &str) -> Result<Job, NoMemory>
 }
 
 /// The least solution of the constraints of a job's cover lines of signs.
-#[tactic(auto, using(crate::proofs::CoverCalls::lines_fit))]
 fn solution(alloc: Global, checked: &Checked, job: &Job) -> Result<Assignment<Sign>, NoMemory>
     requires program { IsProgramOf checked.now job.now.arena }
     requires over { job.now.arena.names ≡ length job.now.names }
