@@ -24,7 +24,7 @@ abbrev pub IsSteady : Folder → List ℕ → List ℕ → Type 0
 IsSteady folder name bytes = IsTrue (folder.steady name) × (folder.told name ≡ Some bytes)
 
 -- the plan came to its end with this text: each file whose turn came had bytes within its limit, those that it tells where it
--- tells them, was selected once, and gave just so many; no other file was selected. So `now` is what stands after the last
+-- tells them, and gave just so many; and as many files were selected as had their turn. So `now` is what stands after the last
 -- one, where `was` stood before the first. Where the text answers what was asked, what it says is so
 abbrev pub Ended : Folder → Progress → Progress → Plan → Ending → List ℕ → Type 0
 Ended folder now was (Write as_said said) ending text = (ending ≡ as_said) × (text ≡ said) × (now ≡ was)
@@ -44,8 +44,8 @@ Reaches P Q (Write ending text) = ⊥
 Reaches P Q (Read name limit next) = Q name limit ⊎ ((bytes : List ℕ) × P name bytes × (length bytes ≤ limit) × Reaches P Q (next bytes))
 Reaches P Q (WriteAnswer asked) = ⊥
 
--- the turn comes of a file of which Q holds, after files that gave bytes within their limits, and each of them was selected
--- once, and no other file
+-- the turn comes of a file of which Q holds, after files that gave bytes within their limits, and as many files were selected
+-- as had their turn
 abbrev pub Stops : Folder → (List ℕ → ℕ → Type 0) → ℕ → ℕ → Plan → Type 0
 Stops folder Q now was (Write ending text) = ⊥
 Stops folder Q now was (Read name limit next) =

@@ -31,8 +31,8 @@ pub fn workbench<F: Files, S: Sink>(
     ensures usage { (result ≡ Status.Usage) ↔ (command_of (map string_bytes words.now) ≡ None) }
     ensures idle { result ≡ Status.Usage → files.new ≡ files.old }
 
-    // The status and what was written are those of the command's plan over what the files told, exactly there. Each file whose
-    // turn came was selected once, and no other.
+    // The status and what was written are those of the command's plan over what the files told, exactly there. As many files
+    // were selected as had their turn.
     ensures written { (ending : Ending) → result ≡ status_of ending → IfSome (planned (map string_bytes words.now)) (λ plan.
         Writes (F.folder files.old) (progress_of (F.selection files.new)) (progress_of (F.selection files.old)) plan ending (S.written sink.old) (S.written sink.new)) }
     ensures exact { IfSome (planned (map string_bytes words.now)) (λ plan. EndsAsTold (F.folder files.old) plan result) }
