@@ -35,7 +35,7 @@ use Rattle.sk_deftext.specs.Canonical.{name_at, hook_word, con_word, flow_word, 
 use Rattle.sk_deftext.specs.Words.{keyword_of, unless_keyword, flow_sort_of, is_reserved}
 use Rattle.sk_deftext.specs.Met.{Met, met, one_more}
 use Rattle.sk_deftext.specs.Bodies as spec
-use Rattle.sk_deftext.specs.Bodies.{rule_hook, rule_con, left_brace}
+use Rattle.sk_deftext.specs.Bodies.{rule_hook, rule_con, closing_brace}
 use Rattle.sk_deftext.specs.Reading as read
 use Rattle.sk_deftext.specs.Reading.{definition_rules, skel, version, item, sort_name, con_name, hook_name, sort_used, sort_named, argument, arg_sort_named, input, output, entry, closed, step, nothing, read_symbols}
 use Rattle.sk_deftext.specs.Texts.{read_definition, lexed, located, source_of}
@@ -138,7 +138,7 @@ unfolding step rule_con
 rule_conned draft at word id e = ap (λ o. spec.with_con draft (option_map (λ place. record { 0 = place }) o)) e
 
 body_closes : (draft : Draft) (at : ℕ) → step draft (expected.Bones body_of.Rule) at (Plain RightBrace) ≡ met draft []
-unfolding step left_brace
+unfolding step closing_brace
 body_closes draft at = refl
 
 rule_points : (draft : Draft) (at : ℕ) → step draft expected.Closing at (Plain Points) ≡ met (record draft { closing = at }) []

@@ -27,7 +27,7 @@ use Rattle.sk_deftext.specs.Met.{Met, met, asked, one_more}
 use Rattle.sk_deftext.specs.Words.{keyword_of, keyword_in, plain_word, flow_sort_of, is_reserved}
 use Rattle.sk_deftext.specs.Bodies as spec
 use Rattle.sk_def.specs.Named.{place_of_con, place_of_hook}
-use Rattle.sk_deftext.specs.Bodies.{rule_hook, rule_con, variable, opening_of, bone, target, left_brace, or_first, or_more, hook_named, bone_of}
+use Rattle.sk_deftext.specs.Bodies.{rule_hook, rule_con, variable, opening_of, bone, target, closing_brace, or_first, or_more, hook_named, bone_of}
 use Rattle.sk_deftext.specs.Reading as read
 use Rattle.sk_deftext.specs.Reading.{skel, version, item, sort_name, con_name, hook_name, sort_used, argument, input, output, entry, closed, first, more, step}
 use Rattle.sk_deftext.specs.Meets.{held, count_of}
@@ -530,10 +530,10 @@ module _ (draft : Draft) (s : Standing draft) where
         placed = s.placed;
       })
 
-  left_brace_keeps : (body : Body) → Kept (left_brace draft body)
-  unfolding left_brace
-  left_brace_keeps body_of.Rule = kept draft [] s
-  left_brace_keeps body_of.Branch = branch_ended_keeps draft.unclosed refl
+  closing_brace_keeps : (body : Body) → Kept (closing_brace draft body)
+  unfolding closing_brace
+  closing_brace_keeps body_of.Rule = kept draft [] s
+  closing_brace_keeps body_of.Branch = branch_ended_keeps draft.unclosed refl
 
   or_first_keeps : (key : Option Keyword) → Kept (or_first draft key)
   unfolding or_first
@@ -734,7 +734,7 @@ module _ (draft : Draft) (s : Standing draft) where
   step_keeps expected.RuleHook at symbol = rule_hook_keeps (word_of symbol)
   step_keeps expected.RuleCon at symbol = rule_con_keeps (word_of symbol)
   step_keeps expected.LeftBrace at symbol = asked_keeps (is_left_brace symbol)
-  step_keeps (expected.Bones body) at symbol = either_way (is_right_brace symbol) (λ _. left_brace_keeps body) (λ _. bone_keeps body at (word_of symbol))
+  step_keeps (expected.Bones body) at symbol = either_way (is_right_brace symbol) (λ _. closing_brace_keeps body) (λ _. bone_keeps body at (word_of symbol))
   step_keeps expected.BoneTarget at symbol = target_keeps (word_of symbol)
   step_keeps expected.BranchOpen at symbol = either_way (is_left_brace symbol) (λ _. branch_begun_keeps draft.unclosed) (λ _. bad Unexpected)
   step_keeps expected.OrFirst at symbol = or_first_keeps (keyword_in (word_of symbol))

@@ -35,7 +35,7 @@ use Rattle.sk_deftext.specs.Canonical.{name_at}
 use Rattle.sk_deftext.specs.Words.{keyword_of, keyword_in, plain_word, unless_keyword, flow_sort_of, is_reserved}
 use Rattle.sk_deftext.specs.Met.{Met, met, asked, one_more}
 use Rattle.sk_deftext.specs.Bodies as spec
-use Rattle.sk_deftext.specs.Bodies.{rule_hook, rule_con, variable, opening_of, bone, target, left_brace, or_first, or_more, bone_of}
+use Rattle.sk_deftext.specs.Bodies.{rule_hook, rule_con, variable, opening_of, bone, target, closing_brace, or_first, or_more, bone_of}
 use Rattle.sk_deftext.specs.Reading as read
 use Rattle.sk_deftext.specs.Reading.{definition_rules, at_symbol, skel, version, item, sort_name, con_name, hook_name, sort_used, argument, input, output, entry, closed, first, more, step, nothing, read_symbols}
 use Rattle.sk_deftext.specs.Written.{IsWord, IsName, AreNames, ListsAreShort, RuleHasNames, HasNames}
@@ -479,10 +479,10 @@ module _ (draft : Draft) (s : Naming draft) where
       kept _ [] (with_bones [] (record { before = one.before; counts = one.counts ++ length draft.bones ∷ []; inside = one.inside ++ draft.bones } ∷ outer) draft.bone_args draft.listed draft.opened draft.marks
       (All-nil ListsAreShort) (u.0, All-append ListsAreShort one.inside draft.bones u.1 s.short, u.2) s.few_args s.few_listed)
 
-  left_brace_keeps : (body : Body) → Kept (left_brace draft body)
-  unfolding left_brace
-  left_brace_keeps body_of.Rule = kept draft [] s
-  left_brace_keeps body_of.Branch = branch_ended_keeps draft.unclosed refl
+  closing_brace_keeps : (body : Body) → Kept (closing_brace draft body)
+  unfolding closing_brace
+  closing_brace_keeps body_of.Rule = kept draft [] s
+  closing_brace_keeps body_of.Branch = branch_ended_keeps draft.unclosed refl
 
   or_first_keeps : (key : Option Keyword) → Kept (or_first draft key)
   unfolding or_first
@@ -590,7 +590,7 @@ module _ (draft : Draft) (s : Naming draft) where
   step_keeps expected.RuleHook at symbol w = rule_hook_keeps (word_of symbol)
   step_keeps expected.RuleCon at symbol w = rule_con_keeps (word_of symbol)
   step_keeps expected.LeftBrace at symbol w = asked_keeps (is_left_brace symbol)
-  step_keeps (expected.Bones body) at symbol w = either_way (is_right_brace symbol) (λ _. left_brace_keeps body) (λ _. bone_keeps body at (word_of symbol))
+  step_keeps (expected.Bones body) at symbol w = either_way (is_right_brace symbol) (λ _. closing_brace_keeps body) (λ _. bone_keeps body at (word_of symbol))
   step_keeps expected.BoneTarget at symbol w = target_keeps (word_of symbol) (word_is_word symbol w)
   step_keeps expected.BranchOpen at symbol w = either_way (is_left_brace symbol) (λ _. branch_begun_keeps draft.unclosed) (λ _. bad Unexpected)
   step_keeps expected.OrFirst at symbol w = or_first_keeps (keyword_in (word_of symbol))

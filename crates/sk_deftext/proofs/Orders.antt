@@ -22,7 +22,7 @@ use Rattle.sk_def.specs.declared.def.Rule.{Rule}
 use Rattle.sk_deftext.specs.Words.{keyword_of, keyword_in, plain_word, flow_sort_of, is_reserved}
 use Rattle.sk_deftext.specs.Met.{Met, met, asked, one_more}
 use Rattle.sk_deftext.specs.Bodies as spec
-use Rattle.sk_deftext.specs.Bodies.{rule_hook, rule_con, variable, opening_of, bone, target, left_brace, or_first, or_more, bone_of}
+use Rattle.sk_deftext.specs.Bodies.{rule_hook, rule_con, variable, opening_of, bone, target, closing_brace, or_first, or_more, bone_of}
 use Rattle.sk_deftext.specs.Reading as read
 use Rattle.sk_deftext.specs.Reading.{skel, version, item, sort_name, con_name, hook_name, sort_used, argument, input, output, entry, closed, first, more, step}
 use Rattle.sk_deftext.specs.Written.{HasFewBranches, IsInOrder, Appear}
@@ -294,13 +294,13 @@ module _ (draft : Draft) (s : Standing draft) (o : Ordered draft) where
         unclosed_few = (few.0, All-append HasFewBranches one.inside draft.bones few.1 o.few, few.2);
       })
 
-  left_brace_goes : {n : ℕ} {q : Phase} (body : Body) → Takes (expected.Bones body) (among n) q → In (among n) draft → Goes (left_brace draft body) q
-  unfolding left_brace
-  left_brace_goes {n} body_of.Rule phase.at_rule_bones i = goes draft [] (among n) i here o
-  left_brace_goes {n} body_of.Branch phase.at_branch_bones i = branch_ended_goes i draft.unclosed refl
+  closing_brace_goes : {n : ℕ} {q : Phase} (body : Body) → Takes (expected.Bones body) (among n) q → In (among n) draft → Goes (closing_brace draft body) q
+  unfolding closing_brace
+  closing_brace_goes {n} body_of.Rule phase.at_rule_bones i = goes draft [] (among n) i here o
+  closing_brace_goes {n} body_of.Branch phase.at_branch_bones i = branch_ended_goes i draft.unclosed refl
 
   bones_goes : {n : ℕ} {q : Phase} (body : Body) → Takes (expected.Bones body) (among n) q → In (among n) draft → (at : ℕ) (symbol : Symbol) → Goes (read.bones draft body at symbol) q
-  bones_goes body t i at symbol = either_way (is_right_brace symbol) (λ _. left_brace_goes body t i) (λ _. bone_goes body t i at (word_of symbol))
+  bones_goes body t i at symbol = either_way (is_right_brace symbol) (λ _. closing_brace_goes body t i) (λ _. bone_goes body t i at (word_of symbol))
 
   or_first_goes : (q : Phase) → In q draft → (key : Option Keyword) → Goes (or_first draft key) q
   unfolding or_first

@@ -25,7 +25,7 @@ use Rattle.sk_deftext.specs.Canonical.{name_at, hook_word, var_word, target_word
 use Rattle.sk_deftext.specs.Words.{keyword_of}
 use Rattle.sk_deftext.specs.Met.{met}
 use Rattle.sk_deftext.specs.Bodies as spec
-use Rattle.sk_deftext.specs.Bodies.{bone, opening_of, target, left_brace, or_first, or_more}
+use Rattle.sk_deftext.specs.Bodies.{bone, opening_of, target, closing_brace, or_first, or_more}
 use Rattle.sk_deftext.specs.Reading.{step, closed}
 use Rattle.sk_deftext.specs.Written.{AreNames, Appear, ListsAreShort, HasFewBranches, target_vars, bones_vars}
 use Rattle.sk_deftext.specs.declared.draft.Draft.{Draft}
@@ -80,7 +80,7 @@ branch_opens draft at one outer e few =
     ap (spec.branch_begun draft) e ∙ ap (λ b. if b then met draft [] else Err (TooMany which.Branches)) (lt-ltb (length one.counts) 8 few)
 
 branch_closes : (draft : Draft) (at : ℕ) → step draft (expected.Bones body_of.Branch) at (Plain RightBrace) ≡ spec.branch_ended draft draft.unclosed
-unfolding step left_brace
+unfolding step closing_brace
 branch_closes draft at = refl
 
 first_or : (draft : Draft) (at : ℕ) → step draft expected.OrFirst at (Named (codes "or")) ≡ met draft []

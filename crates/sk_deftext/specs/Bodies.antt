@@ -130,9 +130,9 @@ branch_ended draft (one ∷ outer) = met (record draft {
 }) []
 
 -- the `}` after bones
-unfoldable pub left_brace : Draft → Body → Met
-left_brace draft Rule = met draft []
-left_brace draft Branch = branch_ended draft draft.unclosed
+unfoldable pub closing_brace : Draft → Body → Met
+closing_brace draft Rule = met draft []
+closing_brace draft Branch = branch_ended draft draft.unclosed
 
 -- `or` after the first branch, and `or` or `with` after a later one
 unfoldable pub or_first : Draft → Option Keyword → Met

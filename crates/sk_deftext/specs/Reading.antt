@@ -6,7 +6,7 @@ use Rattle.sk_base.specs.Names.{place_of_name}
 use Rattle.sk_lex.specs.Run.{Turn, Rules, run_whole}
 use Rattle.sk_deftext.specs.Met.{Met, met, asked, one_more}
 use Rattle.sk_def.specs.Named.{place_of_con, place_of_hook}
-use Rattle.sk_deftext.specs.Bodies.{rule_hook, rule_con, variable, bone, target, left_brace, branch_begun, or_first, or_more, listed_terms, listed_inputs, with_args, finished_bone, finished_branches, finished_rule}
+use Rattle.sk_deftext.specs.Bodies.{rule_hook, rule_con, variable, bone, target, closing_brace, branch_begun, or_first, or_more, listed_terms, listed_inputs, with_args, finished_bone, finished_branches, finished_rule}
 use Rattle.sk_lex.specs.Symbols.{Symbol, word_of, number_of, is_open, is_close, is_comma, is_colon, is_arrow, is_left_brace, is_right_brace}
 use Rattle.sk_def.specs.Filters.{filter_named}
 use Rattle.sk_def.specs.declared.sorts.ArgSort.{ArgSort}
@@ -157,7 +157,7 @@ more draft listed symbol =
 
 -- a bone, or the `}` after the bones
 abbrev pub bones : Draft → Body → ℕ → Symbol → Met
-bones draft body at symbol = if is_right_brace symbol then left_brace draft body else bone draft body at (word_of symbol)
+bones draft body at symbol = if is_right_brace symbol then closing_brace draft body else bone draft body at (word_of symbol)
 
 abbrev pub branch_open : Draft → Symbol → Met
 branch_open draft symbol = if is_left_brace symbol then branch_begun draft draft.unclosed else Err Unexpected

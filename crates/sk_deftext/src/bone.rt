@@ -356,10 +356,10 @@ fn end_branch(alloc: Global, draft: &mut Draft) -> Met
 }
 
 /// The `}` after bones.
-#[tactic(auto, unfolding(crate::specs::Bodies::left_brace))]
+#[tactic(auto, unfolding(crate::specs::Bodies::closing_brace))]
 pub(crate) fn end_bones(alloc: Global, draft: &mut Draft, body: Body) -> Met
     requires within { IsWithin draft.old }
-    ensures gives { Gives (λ next. turn_of draft.new next.now) error_of result (spec.left_brace draft.old body) }
+    ensures gives { Gives (λ next. turn_of draft.new next.now) error_of result (spec.closing_brace draft.old body) }
     ensures within { OnOk result (IsWithin draft.new) }
 {
     match body {

@@ -137,7 +137,7 @@ fn rule_form() -> &'static [Expected]
     ]
 }
 
-/// Whether a name stands in a list.
+/// The first place of a word among names.
 fn place_of(names: &[Ident], word: &[u8]) -> Option<usize>
     ensures { result ≡ place_of_name names.now word.now }
 {

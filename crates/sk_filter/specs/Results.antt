@@ -44,7 +44,7 @@ bool_in (Value.Bool b) = one (Flow.Bool b)
 abbrev pub value_at : State → ℕ → Option Value
 value_at s n = unwrap_or (slice_get s n) None
 
--- what a filter does with arguments of the sorts that it takes; with others it has no result
+-- what a filter does with the arguments that it looks at, where they are of its sorts; else it has no result
 abbrev pub on : {X : Type 0} → Option X → (X → List Values) → List Values
 on given f = option_map_or f given []
 

@@ -26,7 +26,8 @@ macro_rules! on {
     };
 }
 
-/// The results of a filter in order, over this number of names; none for arguments that aren't of its sorts.
+/// The results of a filter in order, over this number of names. A filter that looks at its arguments has none where they
+/// aren't of its sorts.
 pub fn apply(alloc: Global, filter: Filter, names: usize, args: &[Arg]) -> Result<Results, NoMemory>
     ensures { IfOk result (λ results. results ≡ results_of filter names args.now) }
 {

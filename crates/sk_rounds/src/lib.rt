@@ -1,5 +1,5 @@
 //! The theory of the analyser's rounds over any keys, tuples and walks: when they end, in which table, and what holds of
-//! it. And that abstract tuples over any domain are such tuples. The analyser and the constraint solver stand on it.
+//! it. And that abstract tuples over any domain are such tuples. The analyser stands on it.
 #![tactic(auto)]
 
 mod laws;
