@@ -24,3 +24,10 @@ pub mod CollectFrom
 pub mod OwnOutputs
 pub mod RulesFound
 pub mod KeyIndex
+pub mod Keys
+pub mod KeySides
+pub mod WalkLaws
+pub mod Asking
+pub mod Listing
+pub mod Analysed
+pub mod OnePerKey

@@ -12,3 +12,6 @@ pub mod RuleAt
 pub mod Keys
 pub mod Collect
 pub mod Index
+pub mod Reading
+pub mod LeastTable
+pub mod RoundLaws

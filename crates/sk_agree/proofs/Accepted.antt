@@ -25,15 +25,15 @@ use Rattle.sk_lattice.specs.Shapes.{flow_has_sort, has_sorts}
 use Rattle.sk_absfilter.specs.Abstract.{Outcome}
 use Rattle.sk_absfilter.specs.Laws.{outcome_leq, FiltersAreMonotone}
 use Rattle.sk_table.specs.declared.triple.Cover.{Cover}
-use Rattle.sk_abswalk.specs.Walk.{Flows, Ends, uncovered, ill, with, quiet, rule_at, walk_of}
-use Rattle.sk_abswalk.specs.Fits.{setting_of}
 use Rattle.sk_rounds.specs.Walks.{Side, Inputs, Outputs, Table, Walks, WalksLaws, FitSide, FitTable, CallsBelow, side_leq}
 use Rattle.sk_rounds.specs.Rounds.{told_at, own_answer, IsAccepted}
 use Rattle.sk_rounds.specs.Tuples.{tuple_fits}
 use Rattle.sk_rounds.proofs.Ending.{analysed_least}
-use Rattle.sk_analyse.specs.Reading.{Key, keyed, hook_of_key, sorts_of_side, by_key, outcome_of, walk_of_key, walks_of}
-use Rattle.sk_analyse.proofs.Keys.{hook_there}
-use Rattle.sk_analyse.proofs.WalkLaws.{leq_side}
+use Rattle.sk_abswalk.specs.Walk.{Flows, Ends, uncovered, ill, with, quiet, rule_at, walk_of}
+use Rattle.sk_abswalk.specs.Fits.{setting_of}
+use Rattle.sk_abswalk.specs.Reading.{Key, keyed, hook_of_key, sorts_of_side, by_key, outcome_of, walk_of_key, walks_of}
+use Rattle.sk_abswalk.proofs.Keys.{hook_there}
+use Rattle.sk_abswalk.proofs.WalkLaws.{leq_side}
 use Rattle.sk_constr.specs.declared.constraints.Constraints.{Constraints}
 use Rattle.sk_constr.specs.Keys.{RuleOfKey, AreConstraints}
 use Rattle.sk_solve.specs.declared.assignment.Solved.{Solved}

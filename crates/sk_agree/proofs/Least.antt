@@ -18,21 +18,21 @@ use Rattle.sk_absfilter.specs.Laws.{outcome_leq, FiltersAreMonotone}
 use Rattle.sk_absfilter.specs.Fits.{FiltersKeepSorts}
 use Rattle.sk_table.specs.declared.triple.Triple.{Triple}
 use Rattle.sk_table.specs.declared.triple.Cover.{Cover}
-use Rattle.sk_abswalk.specs.Walk.{Flows}
-use Rattle.sk_abswalk.specs.Order.{WalksAreProper}
-use Rattle.sk_abswalk.specs.Fits.{setting_of, WalksFit}
 use Rattle.sk_rounds.specs.Walks.{Inputs, Outputs, Table, Walks, WalksLaws, FitTable, Lies, side_leq}
 use Rattle.sk_rounds.specs.Rounds.{IsAnalysed, IsAccepted}
 use Rattle.sk_rounds.specs.Accepted.{row_at}
 use Rattle.sk_rounds.specs.Laws.{IsLeastAccepted}
 use Rattle.sk_rounds.proofs.Lists.{list_any_entries}
 use Rattle.sk_rounds.proofs.Ending.{least_laws}
-use Rattle.sk_analyse.specs.Reading as reading
-use Rattle.sk_analyse.specs.Reading.{Key, same_key, walks_of, triples_of}
-use Rattle.sk_analyse.specs.Tables.{key_of_triple, HasOnePerKey}
-use Rattle.sk_analyse.proofs.Keys.{same_key_refl, same_key_only}
-use Rattle.sk_analyse.proofs.OnePerKey.{one_per_key}
-use Rattle.sk_analyse.proofs.WalkLaws.{leq_side}
+use Rattle.sk_abswalk.specs.Walk.{Flows}
+use Rattle.sk_abswalk.specs.Order.{WalksAreProper}
+use Rattle.sk_abswalk.specs.Fits.{setting_of, WalksFit}
+use Rattle.sk_abswalk.specs.Reading as reading
+use Rattle.sk_abswalk.specs.Reading.{Key, same_key, walks_of, triples_of}
+use Rattle.sk_abswalk.specs.LeastTable.{key_of_triple, HasOnePerKey}
+use Rattle.sk_abswalk.proofs.Keys.{same_key_refl, same_key_only}
+use Rattle.sk_abswalk.proofs.OnePerKey.{one_per_key}
+use Rattle.sk_abswalk.proofs.WalkLaws.{leq_side}
 use Rattle.sk_constr.specs.declared.constraints.Constraints.{Constraints}
 use Rattle.sk_constr.specs.Keys.{AreConstraints}
 use Rattle.sk_solve.specs.declared.assignment.Solved.{Solved}

@@ -23,15 +23,15 @@ use Rattle.sk_absfilter.specs.Abstract.{Outcome}
 use Rattle.sk_absfilter.specs.Laws.{outcome_leq, FiltersAreMonotone}
 use Rattle.sk_absfilter.specs.Fits.{FiltersKeepSorts}
 use Rattle.sk_table.specs.declared.triple.Cover.{Cover}
-use Rattle.sk_abswalk.specs.Walk.{Flows, Answers}
-use Rattle.sk_abswalk.specs.Order.{WalksAreProper}
-use Rattle.sk_abswalk.specs.Fits.{setting_of, WalksFit}
 use Rattle.sk_rounds.specs.Walks.{Inputs, Outputs, Table, Walks, WalksLaws, FitTable, Lies}
 use Rattle.sk_rounds.specs.Rounds.{own_answer, table_after, IsAnalysed, IsAccepted}
 use Rattle.sk_rounds.proofs.Ending.{ends, analysed_fits, analysed_accepted}
-use Rattle.sk_analyse.specs.Reading.{Key, key_of, by_key, walks_of}
-use Rattle.sk_analyse.proofs.OnePerKey.{one_per_key}
-use Rattle.sk_analyse.proofs.WalkLaws.{leq_outcome}
+use Rattle.sk_abswalk.specs.Walk.{Flows, Answers}
+use Rattle.sk_abswalk.specs.Order.{WalksAreProper}
+use Rattle.sk_abswalk.specs.Fits.{setting_of, WalksFit}
+use Rattle.sk_abswalk.specs.Reading.{Key, key_of, by_key, walks_of}
+use Rattle.sk_abswalk.proofs.OnePerKey.{one_per_key}
+use Rattle.sk_abswalk.proofs.WalkLaws.{leq_outcome}
 use Rattle.sk_constr.specs.declared.constraints.Constraints.{Constraints}
 use Rattle.sk_constr.specs.declared.line.KeyLines.{KeyLines}
 use Rattle.sk_constr.specs.declared.line.Part.{Part}

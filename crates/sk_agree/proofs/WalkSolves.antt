@@ -26,16 +26,16 @@ use Rattle.sk_absfilter.specs.Abstract.{Outcome}
 use Rattle.sk_absfilter.specs.Laws.{outcome_leq}
 use Rattle.sk_absfilter.specs.Fits.{FiltersKeepSorts}
 use Rattle.sk_table.specs.declared.triple.Cover.{Cover}
-use Rattle.sk_abswalk.specs.Walk.{AbsEnv, Flows, Ends, uncovered, ill, with, Walk, quiet, in_world, there, Answers, abstract_world, rule_at, walk_of}
-use Rattle.sk_abswalk.specs.Order.{GotThere, WalksAreProper}
-use Rattle.sk_abswalk.specs.Fits.{setting_of, WalksFit}
 use Rattle.sk_rounds.specs.Walks.{Side, Inputs, Outputs, Table, Walks, FitSide, FitTable, CallsBelow, side_leq}
 use Rattle.sk_rounds.specs.Rounds.{told_at, own_answer, IsAccepted}
 use Rattle.sk_rounds.specs.Tuples.{tuple_fits}
-use Rattle.sk_analyse.specs.Reading.{Key, same_key, key_of, keyed, hook_of_key, sorts_of_side, by_key, outcome_of, walk_of_key, walks_of}
-use Rattle.sk_analyse.proofs.Keys.{key_is, key_there, hook_there, same_key_refl, same_key_only}
-use Rattle.sk_analyse.proofs.Fitting.{side_fits}
-use Rattle.sk_analyse.proofs.WalkLaws.{GetsTo, gets_to, leq_outcome}
+use Rattle.sk_abswalk.specs.Walk.{AbsEnv, Flows, Ends, uncovered, ill, with, Walk, quiet, in_world, there, Answers, abstract_world, rule_at, walk_of}
+use Rattle.sk_abswalk.specs.Order.{GotThere, WalksAreProper}
+use Rattle.sk_abswalk.specs.Fits.{setting_of, WalksFit}
+use Rattle.sk_abswalk.specs.Reading.{Key, same_key, key_of, keyed, hook_of_key, sorts_of_side, by_key, outcome_of, walk_of_key, walks_of}
+use Rattle.sk_abswalk.proofs.Keys.{key_is, key_there, hook_there, same_key_refl, same_key_only}
+use Rattle.sk_abswalk.proofs.KeySides.{side_fits}
+use Rattle.sk_abswalk.proofs.WalkLaws.{GetsTo, gets_to, leq_outcome}
 use Rattle.sk_constr.specs.declared.line.KeyLines.{KeyLines}
 use Rattle.sk_constr.specs.declared.line.Part.{Part}
 use Rattle.sk_constr.specs.declared.constraints.Constraints.{Constraints}

@@ -6,12 +6,12 @@ use Rattle.sk_term.specs.Program.{Program, IsProgramOf}
 use Rattle.sk_lattice.specs.Domain.{Domain}
 use Rattle.sk_lattice.specs.Thresholds.{IsThresholds}
 use Rattle.sk_table.specs.declared.triple.Cover.{Cover}
-use Rattle.sk_abswalk.specs.Walk.{Flows}
-use Rattle.sk_abswalk.specs.Fits.{setting_of}
 use Rattle.sk_rounds.specs.Walks.{Inputs, Outputs, Table, Walks, FitTable, Lies}
 use Rattle.sk_rounds.specs.Rounds.{IsAnalysed, IsAccepted}
 use Rattle.sk_rounds.specs.Laws.{IsLeastAccepted}
-use Rattle.sk_analyse.specs.Reading.{Key, CoversFit, walks_of, triples_of}
+use Rattle.sk_abswalk.specs.Walk.{Flows}
+use Rattle.sk_abswalk.specs.Fits.{setting_of}
+use Rattle.sk_abswalk.specs.Reading.{Key, CoversFit, walks_of, triples_of}
 use Rattle.sk_constr.specs.declared.constraints.Constraints.{Constraints}
 use Rattle.sk_constr.specs.Keys.{AreConstraints}
 use Rattle.sk_solve.specs.declared.assignment.Solved.{Solved}

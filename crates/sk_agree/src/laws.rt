@@ -2,8 +2,7 @@
 ghost use Rattle.sk_agree.specs.Agree.{SolutionsAreAbove, AcceptedAreSolutions, LeastSolutionsAreLeast, LeastSolutionsExist, SolutionsAgree};
 
 use sk_absfilter::{filters_are_monotone, filters_keep_sorts};
-use sk_abswalk::{walks_are_proper, walks_fit};
-use sk_analyse::readings_are_walks;
+use sk_abswalk::{readings_are_walks, walks_are_proper, walks_fit};
 use sk_lattice::NumDom;
 
 /// Over every domain the table of an assignment that satisfies a program's constraints is accepted; on finite domains the

@@ -6,15 +6,15 @@ use Rattle.sk_term.specs.Terms.{keys}
 use Rattle.sk_lattice.specs.Domain.{Domain}
 use Rattle.sk_table.specs.declared.triple.Triple.{Triple}
 use Rattle.sk_table.specs.declared.triple.Cover.{Cover}
-use Rattle.sk_abswalk.specs.Walk.{Flows}
-use Rattle.sk_abswalk.specs.Tables.{IsAccepted}
-use Rattle.sk_abswalk.specs.Fits.{setting_of}
 use Rattle.sk_rounds.specs.Walks.{Inputs, Outputs, Table, Walks}
 use Rattle.sk_rounds.specs.Rounds.{round_bound}
 use Rattle.sk_rounds.specs.Accepted.{row_at}
-use Rattle.sk_analyse.specs.Laws.{AnalysedTables}
-use Rattle.sk_analyse.specs.Reading.{Key, triple_of, triples_of, walks_of}
-use Rattle.sk_analyse.specs.Tables.{HasOnePerKey, TriplesFit, IsLeastTable}
+use Rattle.sk_abswalk.specs.Walk.{Flows}
+use Rattle.sk_abswalk.specs.Tables.{IsAccepted}
+use Rattle.sk_abswalk.specs.Fits.{setting_of}
+use Rattle.sk_abswalk.specs.RoundLaws.{AnalysedTables}
+use Rattle.sk_abswalk.specs.Reading.{Key, triple_of, triples_of, walks_of}
+use Rattle.sk_abswalk.specs.LeastTable.{HasOnePerKey, TriplesFit, IsLeastTable}
 
 -- the triples that are listed by the keys are the table's
 pub triples_are : {D : Type 0} (w : Walks Key (Flows D)) (T : Table Key (Flows D)) (list : List Key) (table : List (Triple D)) → list ≡ w.keys → table ≡ map triple_of (flat_map (λ k. row_at k (T k Inputs) (T k Outputs)) list) → table ≡ triples_of w T

@@ -8,7 +8,6 @@ use Rattle.sk_lattice.specs.Domain.{Domain}
 use Rattle.sk_absfilter.specs.Abstract.{Outcome}
 use Rattle.sk_absfilter.specs.Laws.{outcome_leq}
 use Rattle.sk_table.specs.declared.triple.Cover.{Cover}
-use Rattle.sk_abswalk.specs.Walk.{Flows}
 use Rattle.sk_rounds.specs.Walks.{Side, Inputs, Outputs, Call, Table, Walks, WalksLaws, side_leq, FitSide, FitTable, GoodCalls}
 use Rattle.sk_rounds.specs.Rounds.{Told, told, side_join, join_calls, demands_of, first_table, raised, next_table, table_after, key_still, is_still}
 use Rattle.sk_rounds.proofs.Lists.{all_flat}
@@ -16,8 +15,9 @@ use Rattle.sk_rounds.proofs.Sides.{side_join_fits}
 use Rattle.sk_rounds.proofs.Bearing.{join_calls_fits, join_calls_append, side_join_assoc, told_good, told_nothing, first_fits, f_fits, f_outside}
 use Rattle.sk_rounds.proofs.Rising.{IsGood, after_good}
 use Rattle.sk_rounds.proofs.Ending.{rounds_laws}
+use Rattle.sk_abswalk.specs.Walk.{Flows}
+use Rattle.sk_abswalk.specs.Reading.{Key, same_key, walks_of}
 use Rattle.sk_analyse.specs.declared.sides.Sides.{Sides}
-use Rattle.sk_analyse.specs.Reading.{Key, same_key, walks_of}
 use Rattle.sk_analyse.specs.Sides.{side_of}
 use Rattle.sk_analyse.specs.Tabled.{tabled, HasAllSlots}
 use Rattle.sk_analyse.specs.Jobs.{still_at}

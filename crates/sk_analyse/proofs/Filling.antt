@@ -4,8 +4,8 @@ use Rattle.std.specs.Prelude.{if◌then◌else◌}
 use Rattle.std.specs.List.{list_any}
 use Rattle.std.proofs.lemmas.Bool.{cases_Bool, cond-true, cond-false, both_ways, false_from_ne_true}
 use Rattle.std.proofs.lemmas.List.{drop_more}
-use Rattle.sk_analyse.specs.Reading.{Key, same_key}
-use Rattle.sk_analyse.proofs.Keys.{same_key_refl, same_key_only}
+use Rattle.sk_abswalk.specs.Reading.{Key, same_key}
+use Rattle.sk_abswalk.proofs.Keys.{same_key_refl, same_key_only}
 
 -- every key that isn't left to come has its side
 abbrev pub Filled : {X : Type 0} → (Key → X) → (Key → X) → List Key → Type 0

@@ -8,15 +8,15 @@ use Rattle.sk_lattice.specs.Domain.{Domain}
 use Rattle.sk_lattice.specs.DomainLaws.{DomainLaws}
 use Rattle.sk_absfilter.specs.Abstract.{Outcome}
 use Rattle.sk_table.specs.declared.triple.Cover.{Cover}
-use Rattle.sk_abswalk.specs.Walk.{Flows}
 use Rattle.sk_rounds.specs.Walks.{Inputs, Walks, GoodCalls, FitSide}
 use Rattle.sk_rounds.specs.Rounds.{side_join, join_calls}
 use Rattle.sk_rounds.proofs.Sides.{side_join_fits}
 use Rattle.sk_rounds.proofs.Bearing.{join_calls_fits, side_join_assoc}
 use Rattle.sk_rounds.proofs.TupleWalks.{fit}
-use Rattle.sk_analyse.specs.Reading.{Key, same_key, key_of, keyed, walks_of}
+use Rattle.sk_abswalk.specs.Walk.{Flows}
+use Rattle.sk_abswalk.specs.Reading.{Key, same_key, key_of, keyed, walks_of}
+use Rattle.sk_abswalk.proofs.Keys.{same_key_only}
 use Rattle.sk_analyse.specs.Sides.{side_of, sides_fit, with_call, HasPlace, CanHear}
-use Rattle.sk_analyse.proofs.Keys.{same_key_only}
 
 module _ (D : Type 0) (d : Domain D) (hooks : ℕ) (old : List (Outcome D)) (asked : List (Cover D)) (can : CanHear d hooks old asked) where
   abbrev pub w : Walks Key (Flows D)

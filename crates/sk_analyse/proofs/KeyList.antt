@@ -12,7 +12,7 @@ use Rattle.sk_term.specs.declared.node.TermNode.{TermNode}
 use Rattle.sk_term.specs.Program.{IsSortOfPoint}
 use Rattle.sk_term.specs.Terms.{keys, takes_node, sort_of_node}
 use Rattle.sk_rounds.proofs.Lists.{all_append}
-use Rattle.sk_analyse.specs.Reading.{Key}
+use Rattle.sk_abswalk.specs.Reading.{Key}
 use Rattle.sk_analyse.specs.Keys.{keys_at}
 
 pub there : {A : Type 0} (xs : List A) (k : ℕ) → k < length xs → (x : A) × (slice_get xs k ≡ Some x)

@@ -1,10 +1,3 @@
-pub mod Keys
-pub mod Fitting
-pub mod WalkLaws
-pub mod Asking
-pub mod Listing
-pub mod Analysed
-pub mod OnePerKey
 pub mod Raising
 pub mod SlotLemmas
 pub mod Hearing

@@ -12,9 +12,9 @@ use Rattle.sk_lattice.specs.Merge.{Join, tuple_merge}
 use Rattle.sk_lattice.specs.Order.{cell_leq, flow_leq, tuple_leq, flows_fit, tuples_fit}
 use Rattle.sk_absfilter.specs.Abstract.{Outcome}
 use Rattle.sk_table.specs.declared.triple.Cover.{Cover}
-use Rattle.sk_abswalk.specs.Walk.{Flows}
 use Rattle.sk_rounds.specs.Rounds.{stretch, grown, raised}
-use Rattle.sk_analyse.specs.Reading.{walks_of}
+use Rattle.sk_abswalk.specs.Walk.{Flows}
+use Rattle.sk_abswalk.specs.Reading.{walks_of}
 
 same_length : {A B : Type 0} (f : A → B → Bool) (xs : List A) (ys : List B) → pointwise f xs ys ≡ true → length xs ≡ length ys
 same_length f [] [] e = refl

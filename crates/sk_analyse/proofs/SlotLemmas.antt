@@ -6,13 +6,13 @@ use Rattle.std.proofs.lemmas.List.{get_or-set_same, get_or-set_other}
 use Rattle.std.proofs.lemmas.Nat.{div-mul-add}
 use Rattle.std.proofs.lemmas.Option.{unwrap_or-slice_get}
 use Rattle.sk_absfilter.specs.Abstract.{Outcome}
-use Rattle.sk_abswalk.specs.Walk.{Flows}
 use Rattle.sk_table.specs.declared.triple.Cover.{Cover}
 use Rattle.sk_rounds.specs.Walks.{Walks}
 use Rattle.sk_rounds.specs.Rounds.{side_join}
-use Rattle.sk_analyse.specs.Reading.{Key, same_key, key_of}
+use Rattle.sk_abswalk.specs.Walk.{Flows}
+use Rattle.sk_abswalk.specs.Reading.{Key, same_key, key_of}
+use Rattle.sk_abswalk.proofs.Keys.{same_key_refl, same_key_only}
 use Rattle.sk_analyse.specs.Sides.{side_of, HasPlace, with_call}
-use Rattle.sk_analyse.proofs.Keys.{same_key_refl, same_key_only}
 
 -- the place of a key
 abbrev pub place_of : ℕ → Key → ℕ

@@ -15,12 +15,12 @@ use Rattle.sk_lattice.specs.Domain.{Domain}
 use Rattle.sk_lattice.specs.Empty.{is_proper}
 use Rattle.sk_absfilter.specs.Abstract.{Outcome}
 use Rattle.sk_table.specs.declared.triple.Cover.{Cover}
-use Rattle.sk_abswalk.specs.Walk.{Flows}
-use Rattle.sk_abswalk.specs.Fits.{CallFits}
 use Rattle.sk_rounds.specs.Walks.{Side, Inputs, Outputs, WalksLaws, FitSide}
 use Rattle.sk_rounds.specs.Rounds.{side_join, join_calls, first_table}
+use Rattle.sk_abswalk.specs.Walk.{Flows}
+use Rattle.sk_abswalk.specs.Fits.{CallFits}
+use Rattle.sk_abswalk.specs.Reading.{Key, key_of, keyed, CoversFit, walks_of}
 use Rattle.sk_analyse.specs.declared.sides.Sides.{Sides}
-use Rattle.sk_analyse.specs.Reading.{Key, key_of, keyed, CoversFit, walks_of}
 use Rattle.sk_analyse.specs.Sides.{side_of, HasPlace, CanHear}
 use Rattle.sk_analyse.specs.Tabled.{tabled}
 

@@ -8,18 +8,18 @@ use Rattle.sk_lattice.specs.Domain.{Domain}
 use Rattle.sk_lattice.specs.DomainLaws.{DomainLaws}
 use Rattle.sk_absfilter.specs.Abstract.{Outcome}
 use Rattle.sk_table.specs.declared.triple.Cover.{Cover}
-use Rattle.sk_abswalk.specs.Walk.{Flows, with, Walk, abstract_walk}
-use Rattle.sk_abswalk.specs.Fits.{CallFits}
 use Rattle.sk_rounds.specs.Walks.{Side, Inputs, Table, Walks, WalksLaws, FitSide, FitTable, GoodCalls}
 use Rattle.sk_rounds.specs.Rounds.{Told, own_answer, told_at, told}
 use Rattle.sk_rounds.proofs.Bearing.{told_good}
 use Rattle.sk_rounds.proofs.TupleWalks.{fit}
+use Rattle.sk_abswalk.specs.Walk.{Flows, with, Walk, abstract_walk}
+use Rattle.sk_abswalk.specs.Fits.{CallFits}
+use Rattle.sk_abswalk.specs.Reading.{Key, call_with, key_of, keyed, by_key, outcome_of, walks_of}
+use Rattle.sk_abswalk.proofs.KeySides.{good_call, side_fits}
+use Rattle.sk_abswalk.proofs.Keys.{key_is}
 use Rattle.sk_analyse.specs.declared.sides.Sides.{Sides}
-use Rattle.sk_analyse.specs.Reading.{Key, call_with, key_of, keyed, by_key, outcome_of, walks_of}
 use Rattle.sk_analyse.specs.Sides.{side_of, sides_fit, HasPlace, CanHear}
 use Rattle.sk_analyse.specs.Tabled.{tabled, HasAllSlots}
-use Rattle.sk_analyse.proofs.Fitting.{good_call, side_fits}
-use Rattle.sk_analyse.proofs.Keys.{key_is}
 
 -- a key with a hook and a point of the program has its slot
 pub has_place : {D : Type 0} (slots : List (Outcome D)) (hooks points : ℕ) (k : Key) → length slots ≡ hooks * points → k.0.0 < hooks → k.1 < points → HasPlace hooks slots k

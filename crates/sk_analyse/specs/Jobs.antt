@@ -4,15 +4,15 @@ use Rattle.sk_term.specs.Program.{IsProgramOf}
 use Rattle.sk_deriv.specs.Moves.{Setting}
 use Rattle.sk_lattice.specs.Domain.{Domain}
 use Rattle.sk_absfilter.specs.Laws.{outcome_leq}
-use Rattle.sk_abswalk.specs.Walk.{Flows}
-use Rattle.sk_abswalk.specs.Fits.{setting_of}
 use Rattle.sk_rounds.specs.Walks.{Inputs, Outputs, Table, Walks, WalksLaws}
 use Rattle.sk_rounds.specs.Rounds.{Told, table_after, IsAnalysed}
+use Rattle.sk_abswalk.specs.Walk.{Flows}
+use Rattle.sk_abswalk.specs.Fits.{setting_of}
+use Rattle.sk_abswalk.specs.Reading.{Key, CoversFit, keyed, walks_of, triples_of}
 use Rattle.sk_analyse.specs.declared.job.Job.{Job}
 use Rattle.sk_analyse.specs.declared.sides.Sides.{Sides}
 use Rattle.sk_analyse.specs.declared.rounds.Analysis.{Analysis}
 use Rattle.sk_analyse.specs.declared.told.KeyTold.{KeyTold}
-use Rattle.sk_analyse.specs.Reading.{Key, CoversFit, keyed, walks_of, triples_of}
 use Rattle.sk_analyse.specs.Tabled.{tabled, HasAllSlots}
 
 abbrev pub setting_of_job : {D : Type 0} → Job D → Setting

@@ -5,7 +5,7 @@ use Rattle.sk_def.specs.declared.def.Hook.{Hook}
 use Rattle.sk_def.specs.declared.def.Def.{Def}
 use Rattle.sk_term.specs.declared.node.TermNode.{TermNode}
 use Rattle.sk_term.specs.Terms.{takes_node}
-use Rattle.sk_analyse.specs.Reading.{Key}
+use Rattle.sk_abswalk.specs.Reading.{Key}
 
 -- the hooks from this place on that evaluate a point's node, as keys
 abbrev pub keys_at : Def → TermNode → ℕ → ℕ → List Hook → List Key

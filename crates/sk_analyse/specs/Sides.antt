@@ -6,10 +6,10 @@ use Rattle.sk_lattice.specs.Domain.{Domain}
 use Rattle.sk_lattice.specs.Order.{tuples_fit}
 use Rattle.sk_absfilter.specs.Abstract.{Outcome}
 use Rattle.sk_table.specs.declared.triple.Cover.{Cover}
-use Rattle.sk_abswalk.specs.Walk.{Flows}
 use Rattle.sk_rounds.specs.Walks.{Inputs, Walks, WalksLaws, GoodCalls, FitSide}
 use Rattle.sk_rounds.specs.Rounds.{side_join}
-use Rattle.sk_analyse.specs.Reading.{Key, same_key, key_of, keyed, walks_of}
+use Rattle.sk_abswalk.specs.Walk.{Flows}
+use Rattle.sk_abswalk.specs.Reading.{Key, same_key, key_of, keyed, walks_of}
 
 -- whether the tuples of two sides, where both have one, have the same sorts
 abbrev pub sides_fit : {D : Type 0} → Outcome D → Outcome D → Bool

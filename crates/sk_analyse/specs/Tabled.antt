@@ -1,10 +1,10 @@
 -- What the two sides of all keys say as a table of the rounds.
 use Rattle.std.specs.Prelude.{◌≡◌, ◌*◌, length}
 use Rattle.sk_deriv.specs.Moves.{Setting}
-use Rattle.sk_abswalk.specs.Walk.{Flows}
 use Rattle.sk_rounds.specs.Walks.{Inputs, Outputs, Table}
+use Rattle.sk_abswalk.specs.Walk.{Flows}
+use Rattle.sk_abswalk.specs.Reading.{Key}
 use Rattle.sk_analyse.specs.declared.sides.Sides.{Sides}
-use Rattle.sk_analyse.specs.Reading.{Key}
 use Rattle.sk_analyse.specs.Sides.{side_of}
 
 abbrev pub tabled : {D : Type 0} → Sides D → Table Key (Flows D)

@@ -4,7 +4,7 @@ ghost use Rattle.std.specs.List.{list_any, list_all};
 ghost use Rattle.sk_term.specs.Terms.{keys};
 ghost use Rattle.sk_rounds.specs.Walks.{Inputs, Outputs, FitSide, FitTable};
 ghost use Rattle.sk_rounds.specs.Rounds.{side_join, join_calls, told, demands_of, raised, next_table};
-ghost use Rattle.sk_analyse.specs.Reading.{Key, same_key};
+ghost use Rattle.sk_abswalk.specs.Reading.{Key, same_key};
 ghost use Rattle.sk_analyse.specs.Sides.{side_of, sides_fit};
 ghost use Rattle.sk_analyse.specs.Tabled.{tabled, HasAllSlots};
 ghost use Rattle.sk_analyse.specs.Jobs.{setting_of_job, walks_of_job, still_at, JobFits, AreAfter, AreBefore};

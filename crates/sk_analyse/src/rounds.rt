@@ -2,23 +2,22 @@
 ghost use Rattle.std.specs.Prelude.{◌≡◌, ◌<◌, ◌≤◌, ◌^◌, true, map, flat_map, IfOk};
 ghost use Rattle.sk_term.specs.Program.{IsProgramOf};
 ghost use Rattle.sk_term.specs.Terms.{keys};
-ghost use Rattle.sk_abswalk.specs.Tables.{IsAccepted};
-ghost use Rattle.sk_abswalk.specs.Fits.{setting_of};
 ghost use Rattle.sk_rounds.specs.Walks.{Inputs, Outputs};
 ghost use Rattle.sk_rounds.specs.Rounds.{round_bound, IsAnalysed};
 ghost use Rattle.sk_rounds.specs.Accepted.{row_at};
-ghost use Rattle.sk_analyse.specs.Reading.{CoversFit, triple_of, walks_of};
-ghost use Rattle.sk_analyse.specs.Tables.{HasOnePerKey, TriplesFit, IsLeastTable};
+ghost use Rattle.sk_abswalk.specs.Tables.{IsAccepted};
+ghost use Rattle.sk_abswalk.specs.Fits.{setting_of};
+ghost use Rattle.sk_abswalk.specs.Reading.{CoversFit, triple_of, walks_of};
+ghost use Rattle.sk_abswalk.specs.LeastTable.{HasOnePerKey, TriplesFit, IsLeastTable};
 ghost use Rattle.sk_analyse.specs.Tabled.{tabled};
 ghost use Rattle.sk_analyse.specs.Jobs.{walks_of_job, JobFits, IsAnalysis};
 
 use crate::job::Job;
 use crate::key_list::{Keys, all_keys};
-use crate::laws::{analysed_tables_are_accepted, readings_are_walks};
 use crate::round::next_round;
 use crate::side::copy_side;
 use crate::sides::{Sides, first_table};
-use sk_abswalk::Steps;
+use sk_abswalk::{Steps, analysed_tables_are_accepted, readings_are_walks};
 use sk_base::{NoMemory, Seq};
 use sk_lattice::{NumDom, Thresholds};
 use sk_sort::Checked;

@@ -2,12 +2,12 @@
 ghost use Rattle.std.specs.Prelude.{◌≡◌, true, IsTrue, IfOk, Some, None};
 ghost use Rattle.std.specs.Option.{option_copied};
 ghost use Rattle.sk_deriv.specs.Moves.{Setting};
-ghost use Rattle.sk_table.specs.declared.triple.Cover.{Cover};
 ghost use Rattle.sk_lattice.specs.Order.{tuples_fit};
 ghost use Rattle.sk_lattice.specs.Thresholds.{IsThresholds};
 ghost use Rattle.sk_absfilter.specs.Laws.{outcome_leq};
+ghost use Rattle.sk_table.specs.declared.triple.Cover.{Cover};
 ghost use Rattle.sk_rounds.specs.Rounds.{stretch, raised, side_join};
-ghost use Rattle.sk_analyse.specs.Reading.{walks_of};
+ghost use Rattle.sk_abswalk.specs.Reading.{walks_of};
 ghost use Rattle.sk_analyse.specs.Sides.{sides_fit};
 
 use sk_base::NoMemory;

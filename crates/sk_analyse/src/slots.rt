@@ -4,7 +4,7 @@ ghost use Rattle.std.specs.Option.{option_copied};
 ghost use Rattle.sk_deriv.specs.Moves.{Setting};
 ghost use Rattle.sk_table.specs.declared.triple.Cover.{Cover as Asked};
 ghost use Rattle.sk_rounds.specs.Rounds.{side_join, join_calls};
-ghost use Rattle.sk_analyse.specs.Reading.{Key, same_key, key_of, keyed, walks_of};
+ghost use Rattle.sk_abswalk.specs.Reading.{Key, same_key, key_of, keyed, walks_of};
 ghost use Rattle.sk_analyse.specs.Sides.{sides_fit, side_of, with_call, HasPlace, CanHear};
 
 use crate::hook_count::HookCount;

@@ -2,7 +2,7 @@
 ghost use Rattle.std.specs.Prelude.{◌≡◌, IfOk, Some, None, map};
 ghost use Rattle.sk_rounds.specs.Walks.{FitTable};
 ghost use Rattle.sk_rounds.specs.Rounds.{told};
-ghost use Rattle.sk_analyse.specs.Reading.{keyed};
+ghost use Rattle.sk_abswalk.specs.Reading.{keyed};
 ghost use Rattle.sk_analyse.specs.Tabled.{tabled};
 ghost use Rattle.sk_analyse.specs.Jobs.{walks_of_job, seen_told, JobFits};
 

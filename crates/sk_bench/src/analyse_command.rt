@@ -1,7 +1,7 @@
 //! The command `analyse`.
 ghost use Rattle.std.specs.Prelude.{◌≡◌, ◌<◌, ◌≤◌, length, All, IfOk};
-ghost use Rattle.sk_lattice.specs.Thresholds.{AreMarksOf};
 ghost use Rattle.sk_term.specs.Program.{IsProgramOf, number_leaves};
+ghost use Rattle.sk_lattice.specs.Thresholds.{AreMarksOf};
 ghost use Rattle.sk_bench.specs.Analysing.{SoundlyAnalyses};
 ghost use Rattle.sk_bench.specs.Commands.{job_plan, survey};
 ghost use Rattle.sk_bench.specs.JobText.{seen};
@@ -16,8 +16,8 @@ use crate::kinds::JobCommand;
 use crate::refused::{missing, refuse};
 use crate::status::{Ending, Output, Stop};
 use crate::{DomainWord, Job};
-use sk_abswalk::{Steps, accepted_tables_are_sound};
-use sk_analyse::{analyse as analyse_program, analysed_tables_are_accepted};
+use sk_abswalk::{Steps, accepted_tables_are_sound, analysed_tables_are_accepted};
+use sk_analyse::analyse as analyse_program;
 use sk_base::NoMemory;
 use sk_interval::Interval;
 use sk_lattice::{NumDom, Thresholds};

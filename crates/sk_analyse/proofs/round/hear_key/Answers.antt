@@ -1,8 +1,8 @@
 use Rattle.std.proofs.Common.{◌∙◌, ap}
-use Rattle.sk_abswalk.specs.Walk.{Flows}
 use Rattle.sk_rounds.specs.Walks.{Inputs}
 use Rattle.sk_rounds.specs.Rounds.{Told, side_join, join_calls}
-use Rattle.sk_analyse.specs.Reading.{Key}
+use Rattle.sk_abswalk.specs.Walk.{Flows}
+use Rattle.sk_abswalk.specs.Reading.{Key}
 use Rattle.sk_analyse.specs.Jobs.{setting_of_job, walks_of_job}
 use Rattle.sk_analyse.specs.Tabled.{tabled}
 use Rattle.sk_analyse.proofs.Telling.{can_hear}

@@ -1,7 +1,7 @@
 use Rattle.std.proofs.Common.{◌≡◌, false, sym, ◌∙◌, ap, subst}
 use Rattle.std.specs.List.{list_any, list_all}
 use Rattle.sk_rounds.specs.Walks.{Inputs, Outputs}
-use Rattle.sk_analyse.specs.Reading.{same_key}
+use Rattle.sk_abswalk.specs.Reading.{same_key}
 use Rattle.sk_analyse.specs.Jobs.{setting_of_job, still_at}
 use Rattle.sk_analyse.specs.Tabled.{tabled}
 use Rattle.sk_analyse.proofs.Telling.{sides_fit_from}

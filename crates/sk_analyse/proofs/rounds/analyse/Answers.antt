@@ -1,5 +1,5 @@
 use Rattle.sk_abswalk.specs.Fits.{setting_of}
-use Rattle.sk_analyse.specs.Reading.{walks_of}
+use Rattle.sk_abswalk.specs.Reading.{walks_of}
 use Rattle.sk_analyse.specs.Tabled.{tabled}
 use Rattle.sk_analyse.proofs.Concluding.{triples_are, concluded}
 use Rattle.sk_analyse.proofs.rounds.analyse.Goals as goal

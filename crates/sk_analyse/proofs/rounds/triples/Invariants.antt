@@ -1,7 +1,7 @@
 use Rattle.std.proofs.Common.{◌≡◌, ◌++◌, drop, map, flat_map}
 use Rattle.sk_rounds.specs.Walks.{Inputs, Outputs}
 use Rattle.sk_rounds.specs.Accepted.{row_at}
-use Rattle.sk_analyse.specs.Reading.{triple_of}
+use Rattle.sk_abswalk.specs.Reading.{triple_of}
 use Rattle.sk_analyse.specs.Tabled.{tabled}
 use Rattle.sk_analyse.proofs.rounds.triples.Given as goal
 

@@ -1,9 +1,9 @@
 use Rattle.std.proofs.Common.{sym}
 use Rattle.sk_rounds.specs.Walks.{Outputs}
+use Rattle.sk_abswalk.proofs.KeySides.{answers_fit}
 use Rattle.sk_analyse.specs.Jobs.{setting_of_job}
 use Rattle.sk_analyse.specs.Sides.{side_of}
 use Rattle.sk_analyse.specs.Tabled.{tabled}
-use Rattle.sk_analyse.proofs.Fitting.{answers_fit}
 use Rattle.sk_analyse.proofs.Telling.{call_fits}
 use Rattle.sk_analyse.proofs.told.tell.Goals as goal
 

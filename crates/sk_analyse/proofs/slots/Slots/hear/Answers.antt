@@ -1,7 +1,7 @@
 use Rattle.std.proofs.Common.{◌≡◌, Some, None, refl, sym, ◌∙◌, ap, subst}
 use Rattle.std.specs.Prelude.{slice_get, slice_set}
 use Rattle.sk_rounds.specs.Rounds.{side_join}
-use Rattle.sk_analyse.specs.Reading.{key_of, walks_of}
+use Rattle.sk_abswalk.specs.Reading.{key_of, walks_of}
 use Rattle.sk_analyse.specs.Sides.{side_of}
 use Rattle.sk_analyse.proofs.SlotLemmas.{heard_at, side_there}
 use Rattle.sk_analyse.proofs.slots.Slots.hear.Goals as goal

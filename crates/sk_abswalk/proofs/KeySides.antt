@@ -13,13 +13,13 @@ use Rattle.sk_lattice.specs.Empty.{is_proper}
 use Rattle.sk_lattice.specs.Shapes.{has_sorts}
 use Rattle.sk_absfilter.specs.Abstract.{Outcome}
 use Rattle.sk_table.specs.declared.triple.Cover.{Cover}
+use Rattle.sk_rounds.specs.Walks.{Side, Inputs, Outputs, FitSide, FitAnswers, GoodCalls, is_key}
+use Rattle.sk_rounds.specs.Tuples.{tuple_fits}
 use Rattle.sk_abswalk.specs.Walk.{Flows}
 use Rattle.sk_abswalk.specs.Order.{IsProperOutcome}
 use Rattle.sk_abswalk.specs.Fits.{CallFits, OutcomeFits, AnswersFit}
-use Rattle.sk_rounds.specs.Walks.{Side, Inputs, Outputs, FitSide, FitAnswers, GoodCalls, is_key}
-use Rattle.sk_rounds.specs.Tuples.{tuple_fits}
-use Rattle.sk_analyse.specs.Reading.{Key, call_with, key_of, keyed, hook_of_key, sorts_of_side, by_key, walks_of}
-use Rattle.sk_analyse.proofs.Keys.{key_is, key_there, hook_there, sort_of_point, takes_point}
+use Rattle.sk_abswalk.specs.Reading.{Key, call_with, key_of, keyed, hook_of_key, sorts_of_side, by_key, walks_of}
+use Rattle.sk_abswalk.proofs.Keys.{key_is, key_there, hook_there, sort_of_point, takes_point}
 
 -- a call of a key of the program, no part of whose inputs is empty
 pub record IsGoodCall {D : Type 0} (d : Domain D) (s : Setting) (c : Cover D) : Type 0 where

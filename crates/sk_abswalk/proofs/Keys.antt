@@ -13,7 +13,7 @@ use Rattle.sk_term.specs.declared.node.TermNode.{TermNode}
 use Rattle.sk_term.specs.Terms.{keys, takes_node, sort_of_node}
 use Rattle.sk_term.specs.Program.{IsSortOfPoint}
 use Rattle.sk_deriv.specs.Moves.{Setting}
-use Rattle.sk_analyse.specs.Reading.{Key, same_key, hook_at_node, hook_of_key}
+use Rattle.sk_abswalk.specs.Reading.{Key, same_key, hook_at_node, hook_of_key}
 
 pub same_key_refl : (k : Key) → same_key k k ≡ true
 same_key_refl k = and_from (k.0.0 == k.0.0) (k.1 == k.1) (eq-eqb k.0.0 k.0.0 refl) (eq-eqb k.1 k.1 refl)

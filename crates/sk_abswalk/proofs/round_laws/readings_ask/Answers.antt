@@ -1,6 +1,6 @@
 use Rattle.sk_lattice.proofs.Tuples.{tuple_laws}
-use Rattle.sk_analyse.proofs.Asking.{ask_laws}
-use Rattle.sk_analyse.proofs.laws.readings_ask.Goals as goal
+use Rattle.sk_abswalk.proofs.Asking.{ask_laws}
+use Rattle.sk_abswalk.proofs.round_laws.readings_ask.Goals as goal
 
 pub returns : goal.returns
 returns g c = λ def program covers marks sorted is_program.

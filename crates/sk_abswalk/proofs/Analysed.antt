@@ -15,23 +15,23 @@ use Rattle.sk_absfilter.specs.Abstract.{Outcome}
 use Rattle.sk_absfilter.specs.Laws.{outcome_leq}
 use Rattle.sk_table.specs.declared.triple.Triple.{Triple}
 use Rattle.sk_table.specs.declared.triple.Cover.{Cover}
-use Rattle.sk_abswalk.specs.Walk.{Flows}
-use Rattle.sk_abswalk.specs.Order.{IsProperOutcome}
-use Rattle.sk_abswalk.specs.Tables.{call_of}
-use Rattle.sk_abswalk.specs.Tables as tables
-use Rattle.sk_abswalk.specs.Fits.{TripleFits}
 use Rattle.sk_rounds.specs.Walks.{Side, Inputs, Outputs, Table, Walks, WalksLaws, Lies, side_leq, FitSide, FitTable}
 use Rattle.sk_rounds.specs.Rounds.{own_answer, IsAnalysed, IsAccepted}
 use Rattle.sk_rounds.specs.Accepted.{AskLaws, Row, row_at, rows}
 use Rattle.sk_rounds.proofs.Accepting.{accepted_same}
 use Rattle.sk_rounds.proofs.Ending.{analysed_accepted, analysed_fits, analysed_least}
 use Rattle.sk_rounds.proofs.Lists.{all_flat, list_any_entries}
-use Rattle.sk_analyse.specs.Reading.{Key, same_key, call_with, walks_of, asks_of, triple_of, triples_of}
-use Rattle.sk_analyse.specs.Tables.{key_of_triple, HasOnePerKey, TriplesFit, lies_under, IsLeastTable, Lists}
-use Rattle.sk_analyse.proofs.Asking.{all_mapped}
-use Rattle.sk_analyse.proofs.Fitting.{good_call, good_at, outputs_fit, answer_fits, answer_proper, side_fits}
-use Rattle.sk_analyse.proofs.Keys.{same_key_refl, same_key_only, any_left, any_right, key_is, key_there}
-use Rattle.sk_analyse.proofs.Listing.{any_more, list_accepted, accepted_list}
+use Rattle.sk_abswalk.specs.Walk.{Flows}
+use Rattle.sk_abswalk.specs.Order.{IsProperOutcome}
+use Rattle.sk_abswalk.specs.Tables.{call_of}
+use Rattle.sk_abswalk.specs.Tables as tables
+use Rattle.sk_abswalk.specs.Fits.{TripleFits}
+use Rattle.sk_abswalk.specs.Reading.{Key, same_key, call_with, walks_of, asks_of, triple_of, triples_of}
+use Rattle.sk_abswalk.specs.LeastTable.{key_of_triple, HasOnePerKey, TriplesFit, lies_under, IsLeastTable, Lists}
+use Rattle.sk_abswalk.proofs.Asking.{all_mapped}
+use Rattle.sk_abswalk.proofs.KeySides.{good_call, good_at, outputs_fit, answer_fits, answer_proper, side_fits}
+use Rattle.sk_abswalk.proofs.Keys.{same_key_refl, same_key_only, any_left, any_right, key_is, key_there}
+use Rattle.sk_abswalk.proofs.Listing.{any_more, list_accepted, accepted_list}
 
 any_mapped : {A B : Type 0} (test : B → Bool) (f : A → B) (xs : List A) → list_any (λ x. test (f x)) xs ≡ true → list_any test (map f xs) ≡ true
 any_mapped test f [] e = absurd (false≢true e)
@@ -166,7 +166,7 @@ module _ (D : Type 0) (d : Domain D) (s : Setting) (finite : Bool) (marks : List
           let outs_same : V k Outputs ≡ u.outs = subst (λ j. V j Outputs ≡ u.outs) same h.1 in
           and_from (same_key (key_of_triple u) k) (tuple_leq d ins u.ins && outcome_leq d (T k Outputs) u.outs) y
           (and_from (tuple_leq d ins u.ins) (outcome_leq d (T k Outputs) u.outs) (subst (λ x. tuple_leq d ins x ≡ true) ins_same leq)
-          (subst (λ x. outcome_leq d (T k Outputs) x ≡ true) outs_same (Rattle.sk_analyse.proofs.WalkLaws.leq_outcome D d finite marks s covers (T k Outputs) (V k Outputs) (le k Outputs))))
+          (subst (λ x. outcome_leq d (T k Outputs) x ≡ true) outs_same (Rattle.sk_abswalk.proofs.WalkLaws.leq_outcome D d finite marks s covers (T k Outputs) (V k Outputs) (le k Outputs))))
 
       at : (x : Outcome D) → V k Inputs ≡ x → side_leq w (Some ins) x ≡ true → list_any (lies_under d (triple_of (record { key = k; inputs = ins; outputs = T k Outputs }))) U ≡ true
       at None is h = absurd (false≢true h)

@@ -20,16 +20,16 @@ use Rattle.sk_lattice.specs.Order.{tuple_leq}
 use Rattle.sk_absfilter.specs.Abstract.{Outcome}
 use Rattle.sk_absfilter.specs.Laws.{outcome_leq}
 use Rattle.sk_table.specs.declared.triple.Cover.{Cover}
-use Rattle.sk_abswalk.specs.Walk.{Flows, Ends, uncovered, ill, with, Walk}
-use Rattle.sk_abswalk.specs.Order.{IsBelowOne, AnswersLeq, EndsLeq, GotThere, WalkLeq, WalksAreMonotone, IsProperOutcome, IsProperWalk, WalksAreProper}
-use Rattle.sk_abswalk.specs.Fits.{setting_of, CallFits, EndsFit, WalkFits, WalksFit}
 use Rattle.sk_rounds.specs.Walks.{Side, Inputs, Outputs, Walks, side_leq, FitSide, FitAnswers, GoodCalls, CallsBelow, WalkLaws}
 use Rattle.sk_rounds.specs.Tuples.{ReadingLaws}
 use Rattle.sk_rounds.proofs.Lists.{all_both}
-use Rattle.sk_analyse.specs.Reading.{Key, call_with, key_of, keyed, hook_of_key, sorts_of_side, by_key, outcome_of, walk_of_key, reading_of, walks_of, CoversFit}
+use Rattle.sk_abswalk.specs.Walk.{Flows, Ends, uncovered, ill, with, Walk}
+use Rattle.sk_abswalk.specs.Order.{IsBelowOne, AnswersLeq, EndsLeq, GotThere, WalkLeq, WalksAreMonotone, IsProperOutcome, IsProperWalk, WalksAreProper}
+use Rattle.sk_abswalk.specs.Fits.{setting_of, CallFits, EndsFit, WalkFits, WalksFit}
+use Rattle.sk_abswalk.specs.Reading.{Key, call_with, key_of, keyed, hook_of_key, sorts_of_side, by_key, outcome_of, walk_of_key, reading_of, walks_of, CoversFit}
 use Rattle.sk_abswalk.proofs.Settled.{Settles, walk_settled}
-use Rattle.sk_analyse.proofs.Keys.{same_key_refl, same_key_only, key_is}
-use Rattle.sk_analyse.proofs.Fitting.{IsGoodCall, good_call, outputs_fit, calls_good, answers_fit, answers_proper}
+use Rattle.sk_abswalk.proofs.Keys.{same_key_refl, same_key_only, key_is}
+use Rattle.sk_abswalk.proofs.KeySides.{IsGoodCall, good_call, outputs_fit, calls_good, answers_fit, answers_proper}
 
 -- an outcome that a walk gets to
 pub record GetsTo {D : Type 0} (ends : Ends D (Flows D)) : Type 0 where

@@ -1,7 +1,7 @@
 use Rattle.sk_lattice.proofs.Tuples.{tuple_laws}
 use Rattle.sk_rounds.proofs.TupleWalks.{order_laws, widen_laws}
-use Rattle.sk_analyse.proofs.WalkLaws.{reading_laws, walk_laws}
-use Rattle.sk_analyse.proofs.laws.readings_are_walks.Goals as goal
+use Rattle.sk_abswalk.proofs.WalkLaws.{reading_laws, walk_laws}
+use Rattle.sk_abswalk.proofs.round_laws.readings_are_walks.Goals as goal
 
 pub returns : goal.returns
 returns g c = λ def program covers marks sorted is_program are covers_fit.

@@ -8,12 +8,12 @@ use Rattle.sk_lattice.specs.Order.{tuple_leq}
 use Rattle.sk_absfilter.specs.Laws.{outcome_leq}
 use Rattle.sk_table.specs.declared.triple.Triple.{Triple}
 use Rattle.sk_table.specs.declared.triple.Cover.{Cover}
+use Rattle.sk_rounds.specs.Walks.{Inputs, Outputs, Table}
 use Rattle.sk_abswalk.specs.Walk.{Flows}
 use Rattle.sk_abswalk.specs.Order.{IsProperOutcome}
 use Rattle.sk_abswalk.specs.Tables.{IsAccepted}
 use Rattle.sk_abswalk.specs.Fits.{TripleFits}
-use Rattle.sk_rounds.specs.Walks.{Inputs, Outputs, Table}
-use Rattle.sk_analyse.specs.Reading.{Key, same_key}
+use Rattle.sk_abswalk.specs.Reading.{Key, same_key}
 pub use Rattle.sk_abswalk.specs.Keys.{key_of_triple, HasOnePerKey}
 
 -- the triples are of keys of the program, and no part of their tuples is empty

@@ -6,15 +6,15 @@ use Rattle.sk_term.specs.Program.{Program, IsProgramOf}
 use Rattle.sk_lattice.specs.Domain.{Domain}
 use Rattle.sk_lattice.specs.Thresholds.{IsThresholds}
 use Rattle.sk_table.specs.declared.triple.Cover.{Cover}
-use Rattle.sk_abswalk.specs.Walk.{Flows}
-use Rattle.sk_abswalk.specs.Tables.{IsAccepted}
-use Rattle.sk_abswalk.specs.Fits.{setting_of}
 use Rattle.sk_rounds.specs.Walks.{WalksLaws}
 use Rattle.sk_rounds.specs.Walks.{Table}
 use Rattle.sk_rounds.specs.Rounds.{IsAnalysed, round_bound}
 use Rattle.sk_rounds.specs.Accepted.{AskLaws}
-use Rattle.sk_analyse.specs.Reading.{Key, CoversFit, walks_of, asks_of, triples_of}
-use Rattle.sk_analyse.specs.Tables.{IsLeastTable, HasOnePerKey, TriplesFit}
+use Rattle.sk_abswalk.specs.Walk.{Flows}
+use Rattle.sk_abswalk.specs.Tables.{IsAccepted}
+use Rattle.sk_abswalk.specs.Fits.{setting_of}
+use Rattle.sk_abswalk.specs.Reading.{Key, CoversFit, walks_of, asks_of, triples_of}
+use Rattle.sk_abswalk.specs.LeastTable.{IsLeastTable, HasOnePerKey, TriplesFit}
 
 -- the law of readings: the walks of a well-sorted definition over a program are what the rounds ask for
 abbrev pub ReadingsAreWalks : {D : Type 0} → Domain D → Bool → Type 0

@@ -1,7 +1,7 @@
 //! What the reading of rules is to the rounds.
-ghost use Rattle.sk_analyse.specs.Laws.{ReadingsAreWalks, ReadingsAsk, AnalysedTablesAreAccepted};
+ghost use Rattle.sk_abswalk.specs.RoundLaws.{ReadingsAreWalks, ReadingsAsk, AnalysedTablesAreAccepted};
 
-use sk_abswalk::{walks_agree, walks_are_monotone, walks_are_proper, walks_fit};
+use crate::laws::{walks_agree, walks_are_monotone, walks_are_proper, walks_fit};
 use sk_lattice::NumDom;
 
 /// Over every domain the walks of a well-sorted definition over a program are what the rounds ask for.

@@ -11,12 +11,12 @@ use Rattle.sk_lattice.specs.Empty.{is_proper}
 use Rattle.sk_absfilter.specs.Abstract.{Outcome}
 use Rattle.sk_table.specs.declared.triple.Triple.{Triple}
 use Rattle.sk_table.specs.declared.triple.Cover.{Cover}
-use Rattle.sk_abswalk.specs.Walk.{Flows, Ends, uncovered, ill, with, Walk, abstract_walk}
-pub use Rattle.sk_abswalk.specs.Keys.{Key, same_key, call_with, key_of, by_key}
-use Rattle.sk_abswalk.specs.Fits.{CallFits}
 use Rattle.sk_rounds.specs.Walks.{Side, Inputs, Outputs, Call, Table, Walks}
 use Rattle.sk_rounds.specs.Accepted.{Asks, Row, rows}
 use Rattle.sk_rounds.specs.Tuples.{Reading, walks_over}
+use Rattle.sk_abswalk.specs.Walk.{Flows, Ends, uncovered, ill, with, Walk, abstract_walk}
+pub use Rattle.sk_abswalk.specs.Keys.{Key, same_key, call_with, key_of, by_key}
+use Rattle.sk_abswalk.specs.Fits.{CallFits}
 
 -- a call as the rounds see it
 abbrev pub keyed : {D : Type 0} → Cover D → Call Key (Flows D)

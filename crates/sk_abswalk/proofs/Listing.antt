@@ -13,17 +13,17 @@ use Rattle.sk_lattice.specs.Shapes.{ShapeLaws}
 use Rattle.sk_absfilter.specs.Abstract.{Outcome}
 use Rattle.sk_table.specs.declared.triple.Triple.{Triple}
 use Rattle.sk_table.specs.declared.triple.Cover.{Cover}
-use Rattle.sk_abswalk.specs.Walk.{Flows, Ends, uncovered, ill, with, Answers, abstract_walk}
-use Rattle.sk_abswalk.specs.Tables.{is_above, outcome_meet, meet_from, table_answer, call_of, lies_below, is_justified, is_covered}
-use Rattle.sk_abswalk.specs.Tables as tables
 use Rattle.sk_rounds.specs.Walks.{Inputs, Outputs, Table, Walks, side_leq, FitSide, FitTable, CallsBelow}
 use Rattle.sk_rounds.specs.Accepted.{answer_at, answer, JustifiedBy, AcceptedBy}
 use Rattle.sk_rounds.proofs.Lists.{all_more}
-use Rattle.sk_analyse.specs.Reading.{Key, same_key, call_with, key_of, keyed, walks_of, asked_end, asks_of}
-use Rattle.sk_analyse.specs.Tables.{key_of_triple, Lists}
-use Rattle.sk_analyse.proofs.Keys.{same_key_only}
-use Rattle.sk_analyse.proofs.Fitting.{side_fits}
-use Rattle.sk_analyse.proofs.WalkLaws.{leq_side, leq_outcome}
+use Rattle.sk_abswalk.specs.Walk.{Flows, Ends, uncovered, ill, with, Answers, abstract_walk}
+use Rattle.sk_abswalk.specs.Tables.{is_above, outcome_meet, meet_from, table_answer, call_of, lies_below, is_justified, is_covered}
+use Rattle.sk_abswalk.specs.Tables as tables
+use Rattle.sk_abswalk.specs.Reading.{Key, same_key, call_with, key_of, keyed, walks_of, asked_end, asks_of}
+use Rattle.sk_abswalk.specs.LeastTable.{key_of_triple, Lists}
+use Rattle.sk_abswalk.proofs.Keys.{same_key_only}
+use Rattle.sk_abswalk.proofs.KeySides.{side_fits}
+use Rattle.sk_abswalk.proofs.WalkLaws.{leq_side, leq_outcome}
 
 -- Tests over lists.
 

@@ -1,10 +1,10 @@
 use Rattle.sk_lattice.proofs.SortLemmas.{shape_laws}
 use Rattle.sk_lattice.proofs.Tuples.{tuple_laws}
-use Rattle.sk_abswalk.specs.Fits.{setting_of}
 use Rattle.sk_rounds.proofs.Ending.{analysed_fits, analysed_in_time}
-use Rattle.sk_analyse.proofs.Analysed.{triples_fit, table_accepted, table_least}
-use Rattle.sk_analyse.proofs.OnePerKey.{one_per_key}
-use Rattle.sk_analyse.proofs.laws.analysed_tables_are_accepted.Goals as goal
+use Rattle.sk_abswalk.specs.Fits.{setting_of}
+use Rattle.sk_abswalk.proofs.Analysed.{triples_fit, table_accepted, table_least}
+use Rattle.sk_abswalk.proofs.OnePerKey.{one_per_key}
+use Rattle.sk_abswalk.proofs.round_laws.analysed_tables_are_accepted.Goals as goal
 
 pub returns : goal.returns
 returns g c = λ def program covers marks sorted is_program are covers_fit table rounds analysed.

@@ -8,16 +8,16 @@ use Rattle.sk_lattice.specs.Domain.{Domain}
 use Rattle.sk_lattice.specs.Laws.{TupleLaws}
 use Rattle.sk_absfilter.specs.Abstract.{Outcome}
 use Rattle.sk_table.specs.declared.triple.Cover.{Cover}
-use Rattle.sk_abswalk.specs.Walk.{Flows, Ends, uncovered, ill, with, Walk, Answers, abstract_walk}
-use Rattle.sk_abswalk.specs.Order.{WalksAgree, WalksAreProper}
-use Rattle.sk_abswalk.specs.Fits.{setting_of, WalksFit}
 use Rattle.sk_rounds.specs.Walks.{Inputs, Call, Walks, FitAnswers}
 use Rattle.sk_rounds.specs.Accepted.{AskLaws}
 use Rattle.sk_rounds.specs.Accepted as rounds
 use Rattle.sk_rounds.proofs.Lists.{all_more}
-use Rattle.sk_analyse.specs.Reading.{Key, call_with, key_of, keyed, by_key, outcome_of, walk_of_key, walks_of, asked_end, asks_of}
+use Rattle.sk_abswalk.specs.Walk.{Flows, Ends, uncovered, ill, with, Walk, Answers, abstract_walk}
+use Rattle.sk_abswalk.specs.Order.{WalksAgree, WalksAreProper}
+use Rattle.sk_abswalk.specs.Fits.{setting_of, WalksFit}
+use Rattle.sk_abswalk.specs.Reading.{Key, call_with, key_of, keyed, by_key, outcome_of, walk_of_key, walks_of, asked_end, asks_of}
 use Rattle.sk_abswalk.proofs.Settled.{Settles, walk_settled}
-use Rattle.sk_analyse.proofs.WalkLaws.{GetsTo, gets_to}
+use Rattle.sk_abswalk.proofs.WalkLaws.{GetsTo, gets_to}
 
 pub all_mapped : {A B : Type 0} (P : B → Type 0) (f : A → B) (xs : List A) → AllByRecursion (λ x. P (f x)) xs → AllByRecursion P (map f xs)
 all_mapped P f [] h = tt

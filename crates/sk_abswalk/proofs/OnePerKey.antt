@@ -10,13 +10,13 @@ use Rattle.sk_deriv.specs.Moves.{Setting}
 use Rattle.sk_lattice.specs.Domain.{Domain}
 use Rattle.sk_absfilter.specs.Abstract.{Outcome}
 use Rattle.sk_table.specs.declared.triple.Cover.{Cover}
-use Rattle.sk_abswalk.specs.Walk.{Flows}
 use Rattle.sk_rounds.specs.Walks.{Inputs, Outputs, Table}
 use Rattle.sk_rounds.specs.Accepted.{row_at}
 use Rattle.sk_rounds.proofs.Lists.{all_append, all_more}
-use Rattle.sk_analyse.specs.Reading.{Key, same_key, triple_of, triples_of, walks_of}
-use Rattle.sk_analyse.specs.Tables.{key_of_triple, HasOnePerKey}
-use Rattle.sk_analyse.proofs.Keys.{same_key_only}
+use Rattle.sk_abswalk.specs.Walk.{Flows}
+use Rattle.sk_abswalk.specs.Reading.{Key, same_key, triple_of, triples_of, walks_of}
+use Rattle.sk_abswalk.specs.LeastTable.{key_of_triple, HasOnePerKey}
+use Rattle.sk_abswalk.proofs.Keys.{same_key_only}
 
 -- no key stands twice in the list
 abbrev Distinct : List Key → Type 0
