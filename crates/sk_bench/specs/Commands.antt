@@ -10,6 +10,7 @@ use Rattle.sk_sign.specs.Texts.{sign_texts}
 use Rattle.sk_interval.specs.Intervals.{interval_domain}
 use Rattle.sk_interval.specs.Texts.{interval_texts}
 use Rattle.sk_bench.specs.Verdicts.{Trial}
+use Rattle.sk_bench.specs.declared.check.Counts.{Counts}
 use Rattle.sk_bench.specs.declared.kinds.Command.{Command}
 use Rattle.sk_bench.specs.declared.kinds.Command.TheVariants.{Check, Run, Verify, Constrain, Analyse, Solve}
 use Rattle.sk_bench.specs.declared.kinds.JobCommand.{JobCommand}
@@ -48,15 +49,19 @@ on_accepted ending kind next (Err refused) = Write ending (refused_line kind ref
 abbrev pub on_definition : (Def → Plan) → List ℕ → Plan
 on_definition next text = on_accepted Definition (codes "definition") next (accepted_definition text)
 
+-- how much a definition declares
+abbrev pub counts_of : Def → Counts
+counts_of d = record { sorts = length d.sorts; constructors = length d.cons; hooks = length d.hooks; rules = length d.rules }
+
 -- the line for a good definition: how much it declares
-abbrev pub good_line : Def → List ℕ
-good_line d =
-    codes "good" ++ codes " sorts " ++ decimal (length d.sorts) ++ codes " constructors " ++ decimal (length d.cons) ++ codes " hooks " ++ decimal (length d.hooks)
-    ++ codes " rules " ++ decimal (length d.rules) ++ codes "\n"
+abbrev pub good_line : Counts → List ℕ
+good_line counts =
+    codes "good" ++ codes " sorts " ++ decimal counts.sorts ++ codes " constructors " ++ decimal counts.constructors ++ codes " hooks " ++ decimal counts.hooks
+    ++ codes " rules " ++ decimal counts.rules ++ codes "\n"
 
 -- what `check` does with the text of its definition
 abbrev pub check_on : List ℕ → Plan
-check_on text = on_definition (λ d. Write Done (good_line d)) text
+check_on text = on_definition (λ d. Write Done (good_line (counts_of d))) text
 
 -- goes on with the call of a job's start line, or ends with the line that the job has none, at the end of its text
 abbrev pub on_start : (Start → Plan) → List ℕ → Option Start → Plan

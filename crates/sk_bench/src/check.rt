@@ -1,7 +1,7 @@
 //! The command `check`.
 ghost use Rattle.std.specs.Prelude.{◌≡◌, ◌≤◌, ◌++◌, length, codes, decimal, OnOk};
 ghost use Rattle.sk_base.specs.Causes.{NeverFalls};
-ghost use Rattle.sk_bench.specs.Commands.{check_on, good_line};
+ghost use Rattle.sk_bench.specs.Commands.{check_on, counts_of, good_line};
 ghost use Rattle.sk_bench.specs.Following.{Follows, Prepares};
 ghost use Rattle.sk_bench.specs.Plan.{Read, Write};
 
@@ -33,7 +33,7 @@ fn check_text(alloc: Global, text: &[u8]) -> Result<Output, Stop>
     ensures { Prepares (check_on text.now) result }
 {
     match accept_definition(alloc, text) {
-        Ok(checked) => good(alloc, checked.def()),
+        Ok(checked) => good(alloc, counts_of(checked.def())),
         Err(Unaccepted::Refused(refusal)) => {
             refuse(alloc, Ending::Definition, "definition", refusal)
         }
@@ -41,16 +41,37 @@ fn check_text(alloc: Global, text: &[u8]) -> Result<Output, Stop>
     }
 }
 
-/// The line for a good definition.
-fn good(alloc: Global, def: &Def) -> Result<Output, Stop>
-    ensures { Prepares (Write Ending.Done (good_line def.now)) result }
+/// How much a definition declares.
+#[derive(Drop)]
+pub(crate) struct Counts {
+    sorts: usize,
+    constructors: usize,
+    hooks: usize,
+    rules: usize,
+}
+
+/// Counts what a definition declares.
+fn counts_of(def: &Def) -> Counts
+    ensures { result ≡ counts_of def.now }
+{
+    Counts {
+        sorts: def.sorts.len(),
+        constructors: def.cons.len(),
+        hooks: def.hooks.len(),
+        rules: def.rules.len(),
+    }
+}
+
+/// The line for a good definition that declares so much.
+fn good(alloc: Global, counts: Counts) -> Result<Output, Stop>
+    ensures { Prepares (Write Ending.Done (good_line counts)) result }
 {
     let mut text = Vec::new(alloc);
     put_bytes(&mut text, b"good")?;
-    put_part(&mut text, b" sorts ", def.sorts.len())?;
-    put_part(&mut text, b" constructors ", def.cons.len())?;
-    put_part(&mut text, b" hooks ", def.hooks.len())?;
-    put_part(&mut text, b" rules ", def.rules.len())?;
+    put_part(&mut text, b" sorts ", counts.sorts)?;
+    put_part(&mut text, b" constructors ", counts.constructors)?;
+    put_part(&mut text, b" hooks ", counts.hooks)?;
+    put_part(&mut text, b" rules ", counts.rules)?;
     put_bytes(&mut text, b"\n")?;
     Ok(Output {
         ending: Ending::Done,
