@@ -1,4 +1,5 @@
 pub mod Accepted
+pub mod Agreeing
 pub mod Analysing
 pub mod Asked
 pub mod Codes
