@@ -12,4 +12,5 @@ pub mod BonesSolved
 pub mod WalkSolves
 pub mod Least
 pub mod SpotsBelow
+pub mod TwoMarks
 pub mod LeastExists

@@ -64,7 +64,7 @@ pub record HasLeastSolution {D : Type 0} (d : Domain D) (list : Constraints D) :
 -- the law of solvability: on a finite domain a program's constraints have a least solution
 abbrev pub LeastSolutionsExist : {D : Type 0} → Domain D → Bool → Type 0
 LeastSolutionsExist {D} d finite =
-    finite ≡ true → (def : Def) (program : Program) (covers : List (Cover D)) (marks : List ℤ) → IsWellSorted def → IsProgramOf def program → IsThresholds marks →
+    finite ≡ true → (def : Def) (program : Program) (covers : List (Cover D)) → IsWellSorted def → IsProgramOf def program →
     CoversFit d (setting_of def program) covers → (list : Constraints D) → AreConstraints def program covers list → HasLeastSolution d list
 
 -- the law of agreement: on a finite domain the table of the least solution of a program's constraints is the analyser's
