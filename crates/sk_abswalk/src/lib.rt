@@ -37,6 +37,3 @@ pub use stop::{FromStop, Stop};
 pub use verdict::{Verdict, Why, verdicts_are_right};
 pub use walk::{walk_from, walk_indexed};
 pub use world::World;
-
-#[cfg(test)]
-mod tests;

@@ -13,6 +13,3 @@ mod slots;
 mod told;
 
 pub use rounds::{Analysis, analyse};
-
-#[cfg(test)]
-mod tests;

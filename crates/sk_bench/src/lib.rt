@@ -37,7 +37,11 @@ pub use top::workbench;
 pub use words::command;
 
 #[cfg(test)]
+mod answer_tests;
+#[cfg(test)]
 mod call_tests;
+#[cfg(test)]
+mod law_tests;
 #[cfg(test)]
 mod row_tests;
 #[cfg(test)]

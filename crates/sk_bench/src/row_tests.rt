@@ -390,8 +390,28 @@ fn hostile_definitions_are_refused(rt: HostRuntime) -> Result<(), Fail> {
     Ok(())
 }
 
+const TOSS: &str = "constraints 1 sign
+cover go 0 ()
+key go 0
+0 -> 1 filter any_bool ()
+1 -> 3 filter is_true (1.0)
+3 -> 4 filter one ()
+4 -> 2 join (4.0)
+1 -> 5 filter is_false (1.0)
+5 -> 6 filter one ()
+6 -> 2 join (6.0)
+2 -> out (2.0)
+";
+
 /// Commands over definitions and jobs, what they write, and how they end. No file is named `n`.
-const COMMANDS: [(&str, &str, &str, &str, Status); 9] = [
+const COMMANDS: [(&str, &str, &str, &str, Status); 10] = [
+    (
+        "constrain d j sign",
+        CHOICE,
+        "job 1\nprogram toss()\ncover sign go 0 ()\n",
+        TOSS,
+        Status::Done,
+    ),
     ("run d j 1", DEFINITION, JOB, "results 0\n", Status::Done),
     (
         "run d j 2",
@@ -516,7 +536,14 @@ cover sign exec 0 ({x=pos/none})
 ";
 
 /// Commands over `WHILE`, jobs and tables, and what they write.
-const LOOPS: [(&str, &str, &str, &str, Status); 11] = [
+const LOOPS: [(&str, &str, &str, &str, Status); 12] = [
+    (
+        "verify d j sign t",
+        "job 1\nprogram skip()\n",
+        "table 1 sign\n",
+        "yes 0 triples\n",
+        Status::Done,
+    ),
     ("run d j 5", COUNT, "", "results 0\n", Status::Done),
     ("run d j 6", COUNT, "", COUNTED, Status::Done),
     (

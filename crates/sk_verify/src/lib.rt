@@ -8,6 +8,3 @@ mod laws;
 pub use checker::verify;
 pub use laws::read_tables_fit;
 pub use sk_abswalk::{Verdict, Why};
-
-#[cfg(test)]
-mod tests;

@@ -1,5 +1,5 @@
 //! Answers of a table over signs that has two triples of one key.
-use super::*;
+use sk_abswalk::{is_covered, table_answer};
 use sk_base::{NoMemory, Seq};
 use sk_def::HookId;
 use sk_lattice::{AbsFlow, AbsTuple};
@@ -75,12 +75,4 @@ fn an_answer_is_the_meet_of_all_above(rt: HostRuntime) -> Result<(), Fail> {
     assert!(rt; !is_covered(&table, &elsewhere));
     assert!(rt; table_answer(alloc, &table, &elsewhere)?.is_none());
     Ok(())
-}
-
-#[test]
-fn laws_hold_over_signs() {
-    accepted_tables_are_sound::<Sign>();
-    walks_are_monotone::<Sign>();
-    verdicts_are_right::<Sign>();
-    walks_fit::<Sign>();
 }
