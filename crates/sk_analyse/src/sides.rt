@@ -6,8 +6,8 @@ ghost use Rattle.sk_abswalk.specs.Fits.{setting_of};
 ghost use Rattle.sk_abswalk.specs.Reading.{CoversFit, walks_of};
 ghost use Rattle.sk_analyse.specs.Tabled.{tabled, HasAllSlots};
 
-use crate::laws::readings_are_walks;
 use crate::slots::Slots;
+use sk_abswalk::readings_are_walks;
 use sk_base::NoMemory;
 use sk_lattice::{NumDom, Thresholds};
 use sk_sort::Checked;
