@@ -138,9 +138,6 @@ walk_of d answers names point ins r =
 abbrev pub abstract_walk : {D : Type 0} → Domain D → Answers D → Setting → Cover D → Walk D (Flows D)
 abstract_walk d answers s c = option_map_or (walk_of d answers s.names c.point c.ins) (rule_at s c.hook c.point) (quiet ill)
 
--- the outputs of a call, where all that is asked has an answer; and the calls that are asked
+-- the outputs of a call, where all that is asked has an answer
 abbrev pub abstract_outputs : {D : Type 0} → Domain D → Answers D → Setting → Cover D → Ends D (Flows D)
 abstract_outputs d answers s c = (abstract_walk d answers s c).ends
-
-abbrev pub abstract_calls : {D : Type 0} → Domain D → Answers D → Setting → Cover D → List (Cover D)
-abstract_calls d answers s c = (abstract_walk d answers s c).asked

@@ -1,5 +1,5 @@
 //! Calls of the crates below on definitions and jobs that were read.
-ghost use Rattle.std.specs.Prelude.{◌≡◌, length, IfOk};
+ghost use Rattle.std.specs.Prelude.{◌≡◌, ◌<◌, length, IfOk};
 ghost use Rattle.sk_constr.specs.Fits.{BranchesAreNarrow};
 ghost use Rattle.sk_term.specs.Program.{IsProgramOf};
 ghost use Rattle.sk_bench.specs.JobText.{seen};
@@ -9,7 +9,7 @@ use crate::Job;
 use crate::accept::{accept_definition, accept_job};
 use crate::cover_lines::lines_are_proper;
 use crate::tests::{CHOICE, DEFINITION, JOB};
-use sk_abswalk::{FromStop, walk_from};
+use sk_abswalk::{FromStop, Steps, walk_collect, walk_from};
 use sk_base::{FlowSort, Names, NoMemory, Seq};
 use sk_constr::generate;
 use sk_lattice::AbsTuple;
@@ -17,10 +17,12 @@ use sk_lex::tokens;
 use sk_sign::Sign;
 use sk_solve::{Assignment, Solved, solve};
 use sk_sort::Checked;
-use sk_table::{Table, TableFault, read_abs_tuple, read_known_abs_tuple};
+use sk_table::{Covers, Table, TableFault, read_abs_tuple, read_known_abs_tuple};
 use sk_value::put_bytes;
 use std::alloc::Global;
+use std::marker::Brand;
 use std::str;
+use std::sync::ledger::{Blank, Ledger};
 use std::test::Fail;
 
 /// The definition of a text.
@@ -128,6 +130,53 @@ fn a_walk_stops_at_its_first_call(rt: HostRuntime) -> Result<(), Fail> {
     let checked = definition(alloc, DEFINITION)?;
     let job = job(alloc, &checked, JOB)?;
     let points = first_calls(alloc, &checked, &job)?;
+    assert_eq!(rt; points.len(), 1);
+    assert!(rt; points.iter().all(|point| *point == 1));
+    Ok(())
+}
+
+/// Appends the points of calls.
+fn push_points(points: &mut Vec<u16>, calls: &Covers<Sign>) -> Result<(), NoMemory> {
+    for call in calls.as_slice() {
+        points.push(call.point)?;
+    }
+    Ok(())
+}
+
+/// The points of all calls of walks of the cover lines of signs, where no key has outputs.
+#[tactic(auto, using(crate::proofs::CoverCalls::covers_fit, crate::proofs::CoverCalls::no_triples_fit))]
+fn gathered_calls<L: Ledger>(
+    alloc: Global,
+    checked: &Checked,
+    job: &Job,
+    blank: Blank,
+) -> Result<Vec<u16>, NoMemory>
+    requires program { IsProgramOf checked.now job.now.arena }
+    requires over { job.now.arena.names ≡ length job.now.names }
+    requires calls { CallsFit checked.now (seen job.now) }
+    requires name { blank.name ≡ L.name }
+    requires parts { blank.parts ≡ L.parts }
+    requires some { 0 < blank.parts }
+{
+    lines_are_proper(job.sign.as_slice());
+    let table: Table<Sign> = Seq::new(alloc);
+    let mut steps = Steps::<L>::new(blank);
+    let mut points = Vec::new(alloc);
+    for line in job.sign.as_slice() {
+        let (_outs, calls) = walk_collect(
+            alloc, checked, &job.arena, &table, line.hook, line.point, &line.ins, &mut steps,
+        )?;
+        push_points(&mut points, &calls)?;
+    }
+    Ok(points)
+}
+
+#[test]
+fn a_walk_gathers_its_calls(rt: HostRuntime) -> Result<(), Fail> {
+    let alloc = rt.alloc();
+    let checked = definition(alloc, DEFINITION)?;
+    let job = job(alloc, &checked, JOB)?;
+    let points = gathered_calls::<Brand>(alloc, &checked, &job, Blank::new(1))?;
     assert_eq!(rt; points.len(), 1);
     assert!(rt; points.iter().all(|point| *point == 1));
     Ok(())
