@@ -34,7 +34,7 @@ use Rattle.sk_abswalk.specs.Fits.{setting_of}
 use Rattle.sk_abswalk.specs.Reading.{Key, keyed, hook_of_key, sorts_of_side, by_key, outcome_of, walk_of_key, walks_of}
 use Rattle.sk_abswalk.proofs.Keys.{hook_there}
 use Rattle.sk_abswalk.proofs.WalkLaws.{leq_side}
-use Rattle.sk_constr.specs.declared.constraints.Constraints.{Constraints}
+use Rattle.sk_constr.specs.declared.constraint_list.ConstraintList.{ConstraintList}
 use Rattle.sk_constr.specs.Keys.{RuleOfKey, AreConstraints}
 use Rattle.sk_solve.specs.declared.assignment.Solved.{Solved}
 use Rattle.sk_solve.specs.Solves.{value_at, is_of_key, inputs_at, outputs_at, outcome_fits, Solves}
@@ -66,7 +66,7 @@ pub rule_found_at : (s : Setting) (id : HookId) (point : ℕ) (rule : Rule) (hoo
 rule_found_at s id point rule hook con p = rw (p.node_is, p.rule_is) refl
 
 module _ (D : Type 0) (d : Domain D) (tuples : TupleLaws d) (filters : FiltersAreMonotone d) (def : Def) (program : Program) (sorted : IsWellSorted def) (is_program : IsProgramOf def program)
-    (finite : Bool) (marks : List ℤ) (covers : List (Cover D)) (list : Constraints D) (are : AreConstraints def program covers list) (a : List (Solved D)) (solves : Solves d list a) where
+    (finite : Bool) (marks : List ℤ) (covers : List (Cover D)) (list : ConstraintList D) (are : AreConstraints def program covers list) (a : List (Solved D)) (solves : Solves d list a) where
   abbrev s : Setting
   s = setting_of def program
 

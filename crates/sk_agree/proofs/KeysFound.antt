@@ -24,7 +24,7 @@ use Rattle.sk_abswalk.specs.Fits.{setting_of}
 use Rattle.sk_abswalk.specs.Reading.{Key}
 use Rattle.sk_abswalk.proofs.Keys.{IsKey}
 use Rattle.sk_constr.specs.declared.line.KeyLines.{KeyLines}
-use Rattle.sk_constr.specs.declared.constraints.Constraints.{Constraints}
+use Rattle.sk_constr.specs.declared.constraint_list.ConstraintList.{ConstraintList}
 use Rattle.sk_constr.specs.Keys.{RuleOfKey, AreConstraints, key_by_rule, lines_of_key, lines_of_rule}
 use Rattle.sk_constr.proofs.RulesFound.{KeyParts, key_parts, rule_of_parts}
 use Rattle.sk_solve.specs.declared.assignment.Solved.{Solved}
@@ -127,7 +127,7 @@ pub record SolvedKey {D : Type 0} (d : Domain D) (def : Def) (program : Program)
   pub is_of : IsOfKey d program.names (key_by_rule def k.0 k.1 key.parts.node key.rule key.hook key.con) s
   pub lines : list_all (line_holds d program.names a s) (lines_of_rule k.1 key.rule key.parts.node) ≡ true
 
-module _ (D : Type 0) (d : Domain D) (def : Def) (program : Program) (sorted : IsWellSorted def) (is_program : IsProgramOf def program) (covers : List (Cover D)) (list : Constraints D) (are : AreConstraints def program covers list) (a : List (Solved D)) (solves : Solves d list a) where
+module _ (D : Type 0) (d : Domain D) (def : Def) (program : Program) (sorted : IsWellSorted def) (is_program : IsProgramOf def program) (covers : List (Cover D)) (list : ConstraintList D) (are : AreConstraints def program covers list) (a : List (Solved D)) (solves : Solves d list a) where
   solved_key : (k : Key) (key : KeyLines) (s : Solved D) → OfProgram def program k → lines_of_key def program.nodes k ≡ Some key → IsOfKey d list.names key s → list_all (line_holds d list.names a s) key.lines ≡ true → SolvedKey d def program a k s
   solved_key k key s of e is_of lines =
       let r = key_rule def program sorted is_program k of.0 of.1 in

@@ -33,7 +33,7 @@ use Rattle.sk_abswalk.specs.LeastTable.{key_of_triple, HasOnePerKey}
 use Rattle.sk_abswalk.proofs.Keys.{same_key_refl, same_key_only}
 use Rattle.sk_abswalk.proofs.OnePerKey.{one_per_key}
 use Rattle.sk_abswalk.proofs.WalkLaws.{leq_side}
-use Rattle.sk_constr.specs.declared.constraints.Constraints.{Constraints}
+use Rattle.sk_constr.specs.declared.constraint_list.ConstraintList.{ConstraintList}
 use Rattle.sk_constr.specs.Keys.{AreConstraints}
 use Rattle.sk_solve.specs.declared.assignment.Solved.{Solved}
 use Rattle.sk_solve.specs.Solves.{value_at, is_of_key, KeyLies, IsLeastSolution}
@@ -119,7 +119,7 @@ triples_same {D} a (k ∷ ks) (s ∷ rest) h =
     one (Some ins) tail = λ i. record { hook = h.0.1.0 i; point = h.0.1.1 i; ins = ins; outs = s.outs } ∷ tail i
 
 module _ (D : Type 0) (d : Domain D) (tuples : TupleLaws d) (shapes : ShapeLaws d) (filters : FiltersAreMonotone d) (keep : FiltersKeepSorts d) (fit : WalksFit d) (proper : WalksAreProper d) (def : Def) (program : Program) (sorted : IsWellSorted def) (is_program : IsProgramOf def program)
-    (finite : Bool) (marks : List ℤ) (covers : List (Cover D)) (list : Constraints D) (are : AreConstraints def program covers list) (laws : WalksLaws (walks_of d finite marks (setting_of def program) covers)) (a : List (Solved D)) (least : IsLeastSolution d list a) where
+    (finite : Bool) (marks : List ℤ) (covers : List (Cover D)) (list : ConstraintList D) (are : AreConstraints def program covers list) (laws : WalksLaws (walks_of d finite marks (setting_of def program) covers)) (a : List (Solved D)) (least : IsLeastSolution d list a) where
   abbrev s : Setting
   s = setting_of def program
 

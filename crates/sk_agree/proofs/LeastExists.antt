@@ -32,7 +32,7 @@ use Rattle.sk_abswalk.specs.Fits.{setting_of, WalksFit}
 use Rattle.sk_abswalk.specs.Reading.{Key, key_of, by_key, walks_of}
 use Rattle.sk_abswalk.proofs.OnePerKey.{one_per_key}
 use Rattle.sk_abswalk.proofs.WalkLaws.{leq_outcome}
-use Rattle.sk_constr.specs.declared.constraints.Constraints.{Constraints}
+use Rattle.sk_constr.specs.declared.constraint_list.ConstraintList.{ConstraintList}
 use Rattle.sk_constr.specs.declared.line.KeyLines.{KeyLines}
 use Rattle.sk_constr.specs.declared.line.Part.{Part}
 use Rattle.sk_constr.specs.Operands.{operands_at}
@@ -74,7 +74,7 @@ mapped R S f step (x ∷ xs) [] h = absurd h
 mapped R S f step (x ∷ xs) (z ∷ zs) h = (step x z h.0, mapped R S f step xs zs h.1)
 
 module _ (D : Type 0) (d : Domain D) (tuples : TupleLaws d) (shapes : ShapeLaws d) (filters : FiltersAreMonotone d) (keep : FiltersKeepSorts d) (fit : WalksFit d) (proper : WalksAreProper d) (def : Def) (program : Program) (sorted : IsWellSorted def) (is_program : IsProgramOf def program)
-    (finite : Bool) (marks : List ℤ) (covers : List (Cover D)) (list : Constraints D) (are : AreConstraints def program covers list) (laws : WalksLaws (walks_of d finite marks (setting_of def program) covers)) where
+    (finite : Bool) (marks : List ℤ) (covers : List (Cover D)) (list : ConstraintList D) (are : AreConstraints def program covers list) (laws : WalksLaws (walks_of d finite marks (setting_of def program) covers)) where
   abbrev s : Setting
   s = setting_of def program
 

@@ -38,7 +38,7 @@ use Rattle.sk_abswalk.proofs.KeySides.{side_fits}
 use Rattle.sk_abswalk.proofs.WalkLaws.{GetsTo, gets_to, leq_outcome}
 use Rattle.sk_constr.specs.declared.line.KeyLines.{KeyLines}
 use Rattle.sk_constr.specs.declared.line.Part.{Part}
-use Rattle.sk_constr.specs.declared.constraints.Constraints.{Constraints}
+use Rattle.sk_constr.specs.declared.constraint_list.ConstraintList.{ConstraintList}
 use Rattle.sk_constr.specs.Operands.{operands_at}
 use Rattle.sk_constr.specs.Lines.{env_after, last_position, line_at, lines_of}
 use Rattle.sk_constr.specs.Keys.{AreConstraints, first_env, lines_of_rule, key_by_rule, lines_of_key}
@@ -74,7 +74,7 @@ got_to : {D : Type 0} (ends : Ends D (Flows D)) → GetsTo ends → GotThere end
 got_to ends t = subst GotThere (sym t.is) tt
 
 module _ (D : Type 0) (d : Domain D) (tuples : TupleLaws d) (shapes : ShapeLaws d) (keep : FiltersKeepSorts d) (fit : WalksFit d) (proper : WalksAreProper d) (def : Def) (program : Program) (sorted : IsWellSorted def) (is_program : IsProgramOf def program)
-    (finite : Bool) (marks : List ℤ) (covers : List (Cover D)) (list : Constraints D) (are : AreConstraints def program covers list)
+    (finite : Bool) (marks : List ℤ) (covers : List (Cover D)) (list : ConstraintList D) (are : AreConstraints def program covers list)
     (V : Table Key (Flows D)) (fits : FitTable (walks_of d finite marks (setting_of def program) covers) V) (accepted : IsAccepted (walks_of d finite marks (setting_of def program) covers) V) where
   abbrev s : Setting
   s = setting_of def program

@@ -12,7 +12,7 @@ use Rattle.sk_rounds.specs.Laws.{IsLeastAccepted}
 use Rattle.sk_abswalk.specs.Walk.{Flows}
 use Rattle.sk_abswalk.specs.Fits.{setting_of}
 use Rattle.sk_abswalk.specs.Reading.{Key, CoversFit, walks_of, triples_of}
-use Rattle.sk_constr.specs.declared.constraints.Constraints.{Constraints}
+use Rattle.sk_constr.specs.declared.constraint_list.ConstraintList.{ConstraintList}
 use Rattle.sk_constr.specs.Keys.{AreConstraints}
 use Rattle.sk_solve.specs.declared.assignment.Solved.{Solved}
 use Rattle.sk_solve.specs.Solves.{inputs_at, outputs_at, Solves, IsLeastSolution}
@@ -34,11 +34,11 @@ pub record IsAbove {K E : Type 0} (w : Walks K E) (U : Table K E) : Type 0 where
 abbrev pub SolutionsAreAbove : {D : Type 0} → Domain D → Bool → Type 0
 SolutionsAreAbove {D} d finite =
     (def : Def) (program : Program) (covers : List (Cover D)) (marks : List ℤ) → IsWellSorted def → IsProgramOf def program → IsThresholds marks →
-    CoversFit d (setting_of def program) covers → (list : Constraints D) → AreConstraints def program covers list → (a : List (Solved D)) → Solves d list a →
+    CoversFit d (setting_of def program) covers → (list : ConstraintList D) → AreConstraints def program covers list → (a : List (Solved D)) → Solves d list a →
     IsAbove (walks_of d finite marks (setting_of def program) covers) (sides_of a)
 
 -- an assignment that satisfies the constraints, whose table is this one
-pub record HasSolution {D : Type 0} (d : Domain D) (list : Constraints D) (table : Table Key (Flows D)) : Type 0 where
+pub record HasSolution {D : Type 0} (d : Domain D) (list : ConstraintList D) (table : Table Key (Flows D)) : Type 0 where
   pub assignment : List (Solved D)
   pub solves : Solves d list assignment
   pub table_is : sides_of assignment ≡ table
@@ -46,18 +46,18 @@ pub record HasSolution {D : Type 0} (d : Domain D) (list : Constraints D) (table
 -- the law of accepted tables: each is the table of an assignment that satisfies the program's constraints
 abbrev pub AcceptedAreSolutions : {D : Type 0} → Domain D → Bool → Type 0
 AcceptedAreSolutions {D} d finite =
-    (def : Def) (program : Program) (covers : List (Cover D)) (marks : List ℤ) → IsWellSorted def → IsProgramOf def program → (list : Constraints D) → AreConstraints def program covers list → (table : Table Key (Flows D)) →
+    (def : Def) (program : Program) (covers : List (Cover D)) (marks : List ℤ) → IsWellSorted def → IsProgramOf def program → (list : ConstraintList D) → AreConstraints def program covers list → (table : Table Key (Flows D)) →
     FitTable (walks_of d finite marks (setting_of def program) covers) table → IsAccepted (walks_of d finite marks (setting_of def program) covers) table → HasSolution d list table
 
 -- the law of least solutions: their table is the least accepted one
 abbrev pub LeastSolutionsAreLeast : {D : Type 0} → Domain D → Bool → Type 0
 LeastSolutionsAreLeast {D} d finite =
     (def : Def) (program : Program) (covers : List (Cover D)) (marks : List ℤ) → IsWellSorted def → IsProgramOf def program → IsThresholds marks →
-    CoversFit d (setting_of def program) covers → (list : Constraints D) → AreConstraints def program covers list → (a : List (Solved D)) → IsLeastSolution d list a →
+    CoversFit d (setting_of def program) covers → (list : ConstraintList D) → AreConstraints def program covers list → (a : List (Solved D)) → IsLeastSolution d list a →
     IsLeastAccepted (walks_of d finite marks (setting_of def program) covers) (sides_of a)
 
 -- a least assignment that satisfies the constraints
-pub record HasLeastSolution {D : Type 0} (d : Domain D) (list : Constraints D) : Type 0 where
+pub record HasLeastSolution {D : Type 0} (d : Domain D) (list : ConstraintList D) : Type 0 where
   pub assignment : List (Solved D)
   pub least : IsLeastSolution d list assignment
 
@@ -65,12 +65,12 @@ pub record HasLeastSolution {D : Type 0} (d : Domain D) (list : Constraints D) :
 abbrev pub LeastSolutionsExist : {D : Type 0} → Domain D → Bool → Type 0
 LeastSolutionsExist {D} d finite =
     finite ≡ true → (def : Def) (program : Program) (covers : List (Cover D)) → IsWellSorted def → IsProgramOf def program →
-    CoversFit d (setting_of def program) covers → (list : Constraints D) → AreConstraints def program covers list → HasLeastSolution d list
+    CoversFit d (setting_of def program) covers → (list : ConstraintList D) → AreConstraints def program covers list → HasLeastSolution d list
 
 -- the law of agreement: on a finite domain the table of the least solution of a program's constraints is the analyser's
 abbrev pub SolutionsAgree : {D : Type 0} → Domain D → Bool → Type 0
 SolutionsAgree {D} d finite =
     finite ≡ true → (def : Def) (program : Program) (covers : List (Cover D)) (marks : List ℤ) → IsWellSorted def → IsProgramOf def program → IsThresholds marks →
-    CoversFit d (setting_of def program) covers → (list : Constraints D) → AreConstraints def program covers list → (a : List (Solved D)) → IsLeastSolution d list a →
+    CoversFit d (setting_of def program) covers → (list : ConstraintList D) → AreConstraints def program covers list → (a : List (Solved D)) → IsLeastSolution d list a →
     (table : Table Key (Flows D)) (rounds : ℕ) → IsAnalysed (walks_of d finite marks (setting_of def program) covers) table rounds →
     table_of a ≡ triples_of (walks_of d finite marks (setting_of def program) covers) table

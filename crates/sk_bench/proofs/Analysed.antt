@@ -21,7 +21,7 @@ use Rattle.sk_abswalk.specs.Reading.{Key, CoversFit, walks_of, triples_of}
 use Rattle.sk_abswalk.specs.RoundLaws.{AnalysedTablesAreAccepted}
 use Rattle.sk_analyse.specs.Jobs as analyser
 use Rattle.sk_analyse.specs.declared.rounds.Analysis.{Analysis}
-use Rattle.sk_constr.specs.declared.constraints.Constraints.{Constraints}
+use Rattle.sk_constr.specs.declared.constraint_list.ConstraintList.{ConstraintList}
 use Rattle.sk_constr.specs.Keys.{AreConstraints}
 use Rattle.sk_solve.specs.declared.assignment.Solved.{Solved}
 use Rattle.sk_solve.specs.Solves.{IsLeastSolution}
@@ -53,9 +53,9 @@ module _ {D : Type 0} (d : Domain D) (finite : Bool) (s : Survey D) where
       let marks : a.marks ≡ b.marks = marks_are_one (number_leaves s.job.nodes) a.marks b.marks a.increase a.of_leaves b.increase b.of_leaves in
       a.triples_are ∙ same_triples a.marks b.marks marks a.table b.table a.rounds b.rounds a.analysed b.analysed ∙ sym b.triples_are
 
-one_assignment : (list other : Constraints Sign) → list ≡ other → (a b : List (Solved Sign)) → IsLeastSolution sign_domain list a → IsLeastSolution sign_domain other b → a ≡ b
+one_assignment : (list other : ConstraintList Sign) → list ≡ other → (a b : List (Solved Sign)) → IsLeastSolution sign_domain list a → IsLeastSolution sign_domain other b → a ≡ b
 one_assignment list other e a b is are =
-    least_is_one sign_domain (tuple_laws _ sign_domain sign_laws) list a b is (subst (λ (l : Constraints Sign). IsLeastSolution sign_domain l b) (sym e) are)
+    least_is_one sign_domain (tuple_laws _ sign_domain sign_laws) list a b is (subst (λ (l : ConstraintList Sign). IsLeastSolution sign_domain l b) (sym e) are)
 
 pub one_solution : (s : Survey Sign) (xs ys : List (Triple Sign)) → IsSolution sign_domain s xs → IsSolution sign_domain s ys → xs ≡ ys
 one_solution s xs ys a b =
@@ -98,7 +98,7 @@ solution_means def program job covers law sorted is nodes names fit =
     λ solved analysed s a.
     s.triples_are ∙ law refl def (program_of def job) covers a.marks sorted is' a.increase fit' s.list s.list_is s.assignment s.least a.table a.rounds a.analysed ∙ sym a.triples_are
 
-pub solution_in : (def : Def) (program : Program) (job : ReadJob) (covers : List (Cover Sign)) (list : Constraints Sign) (assignment : List (Solved Sign)) (triples : List (Triple Sign))
+pub solution_in : (def : Def) (program : Program) (job : ReadJob) (covers : List (Cover Sign)) (list : ConstraintList Sign) (assignment : List (Solved Sign)) (triples : List (Triple Sign))
     → IsProgramOf def program → program.nodes ≡ job.nodes → program.names ≡ length job.names → AreConstraints def program covers list → IsLeastSolution sign_domain list assignment
     → triples ≡ table_of assignment → IsSolution sign_domain (survey def job covers) triples
 solution_in def program job covers list assignment triples is nodes names are least spells =

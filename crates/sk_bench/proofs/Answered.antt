@@ -11,7 +11,7 @@ use Rattle.sk_abswalk.specs.declared.verdict.Verdict.{Verdict}
 use Rattle.sk_bench.specs.declared.status.Ending.{Ending}
 use Rattle.sk_bench.specs.Asked.{Asked, IsAnswer, results, sign_verdict, interval_verdict, sign_constraints, interval_constraints, sign_analysis, interval_analysis, solution}
 use Rattle.sk_bench.specs.Outcomes.{Question, IsResultsText, setting_in, outcomes_text}
-use Rattle.sk_constr.specs.declared.constraints.Constraints.{Constraints}
+use Rattle.sk_constr.specs.declared.constraint_list.ConstraintList.{ConstraintList}
 use Rattle.sk_table.specs.declared.triple.Triple.{Triple}
 use Rattle.sk_table.specs.Texts.{table_text}
 use Rattle.sk_constr.specs.Texts.{constraints_text}

@@ -10,7 +10,7 @@ use Rattle.sk_interval.specs.Intervals.{interval_domain}
 use Rattle.sk_interval.specs.Texts.{interval_texts}
 use Rattle.sk_table.specs.declared.triple.Cover.{Cover}
 use Rattle.sk_term.specs.Program.{Program, IsProgramOf}
-use Rattle.sk_constr.specs.declared.constraints.Constraints.{Constraints}
+use Rattle.sk_constr.specs.declared.constraint_list.ConstraintList.{ConstraintList}
 use Rattle.sk_constr.specs.Keys.{AreConstraints}
 use Rattle.sk_bench.specs.declared.kinds.DomainWord.TheVariants as word
 use Rattle.sk_bench.specs.declared.kinds.JobCommand.TheVariants as command
@@ -73,6 +73,6 @@ pub solution : (d : Def) (job : ReadJob) (text : List ℕ) (result : Result Outp
 solution d job text result h = surveyed AgreeablySolves d job text asked.solution (λ s ending said done is. ((done, is.0), is.1)) job.sign result h
 
 -- constraints over a program are those over its job
-pub constraints_in : {D : Type 0} (d : Def) (program : Program) (job : ReadJob) (covers : List (Cover D)) (list : Constraints D) → IsProgramOf d program → program.nodes ≡ job.nodes
+pub constraints_in : {D : Type 0} (d : Def) (program : Program) (job : ReadJob) (covers : List (Cover D)) (list : ConstraintList D) → IsProgramOf d program → program.nodes ≡ job.nodes
     → program.names ≡ length job.names → AreConstraints d program covers list → AreConstraintsIn (survey d job covers) list
 constraints_in d program job covers list is nodes names h = subst (λ (p : Program). AreConstraints d p covers list) (program_is d program job is nodes names) h

@@ -10,7 +10,7 @@ use Rattle.sk_abswalk.specs.Fits.{setting_of}
 use Rattle.sk_abswalk.specs.Reading.{CoversFit, walks_of}
 use Rattle.sk_analyse.specs.declared.rounds.Analysis.{Analysis}
 use Rattle.sk_analyse.specs.Jobs.{IsAnalysis}
-use Rattle.sk_constr.specs.declared.constraints.Constraints.{Constraints}
+use Rattle.sk_constr.specs.declared.constraint_list.ConstraintList.{ConstraintList}
 use Rattle.sk_constr.specs.Keys.{AreConstraints}
 use Rattle.sk_solve.specs.declared.assignment.Solved.{Solved}
 use Rattle.sk_solve.specs.Solves.{IsLeastSolution}
@@ -21,5 +21,5 @@ use Rattle.sk_solve.specs.Tables.{table_of}
 abbrev pub SolutionsAreAnalyses : {D : Type 0} → Domain D → Bool → Type 0
 SolutionsAreAnalyses {D} d finite =
     finite ≡ true → (def : Def) (program : Program) (covers : List (Cover D)) (marks : List ℤ) → IsWellSorted def → IsProgramOf def program → IsThresholds marks →
-    CoversFit d (setting_of def program) covers → (list : Constraints D) → AreConstraints def program covers list → (assignment : List (Solved D)) → IsLeastSolution d list assignment →
+    CoversFit d (setting_of def program) covers → (list : ConstraintList D) → AreConstraints def program covers list → (assignment : List (Solved D)) → IsLeastSolution d list assignment →
     (analysis : Analysis D) → IsAnalysis (walks_of d finite marks (setting_of def program) covers) analysis → table_of assignment ≡ analysis.table

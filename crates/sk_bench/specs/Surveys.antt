@@ -16,7 +16,7 @@ use Rattle.sk_abswalk.specs.Fits.{setting_of}
 use Rattle.sk_abswalk.specs.Walk.{Flows}
 use Rattle.sk_abswalk.specs.Reading.{Key, walks_of, triples_of}
 use Rattle.sk_abswalk.specs.LeastTable.{HasOnePerKey, IsLeastTable}
-use Rattle.sk_constr.specs.declared.constraints.Constraints.{Constraints}
+use Rattle.sk_constr.specs.declared.constraint_list.ConstraintList.{ConstraintList}
 use Rattle.sk_constr.specs.Keys.{AreConstraints}
 use Rattle.sk_constr.specs.Texts.{constraints_text}
 use Rattle.sk_solve.specs.declared.assignment.Solved.{Solved}
@@ -36,13 +36,13 @@ abbrev pub program_in : {D : Type 0} → Survey D → Program
 program_in survey = program_of survey.def survey.job
 
 -- the constraints of the program and its cover lines
-abbrev pub AreConstraintsIn : {D : Type 0} → Survey D → Constraints D → Type 0
+abbrev pub AreConstraintsIn : {D : Type 0} → Survey D → ConstraintList D → Type 0
 AreConstraintsIn survey list = AreConstraints survey.def (program_in survey) survey.covers list
 
 -- the text is theirs
 abbrev pub IsConstraintsText : {D : Type 0} → Domain D → DomainTexts D → Survey D → List ℕ → Type 0
 IsConstraintsText {D} d t survey text =
-    (list : Constraints D) × AreConstraintsIn survey list × (text ≡ constraints_text d t survey.def survey.job.names list)
+    (list : ConstraintList D) × AreConstraintsIn survey list × (text ≡ constraints_text d t survey.def survey.job.names list)
 
 -- Tables.
 
@@ -66,7 +66,7 @@ pub record IsAnalysis {D : Type 0} (d : Domain D) (finite : Bool) (survey : Surv
 
 -- the triples are those of the least solution of the constraints
 pub record IsSolution {D : Type 0} (d : Domain D) (survey : Survey D) (triples : List (Triple D)) : Type 0 where
-  pub list : Constraints D
+  pub list : ConstraintList D
   pub list_is : AreConstraintsIn survey list
   pub assignment : List (Solved D)
   pub least : IsLeastSolution d list assignment
