@@ -8,3 +8,4 @@ pub mod NewFlows
 pub mod EnvFits
 pub mod LinesFit
 pub mod ListFits
+pub mod Narrow

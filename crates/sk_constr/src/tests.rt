@@ -1,6 +1,8 @@
 //! The lists of two small programs, by their texts.
-ghost use Rattle.std.specs.Prelude.{IfOk};
+ghost use Rattle.std.specs.Prelude.{All, IfOk};
 ghost use Rattle.sk_term.specs.Program.{IsProgramOf};
+ghost use Rattle.sk_table.specs.Fits.{CoverFits};
+ghost use Rattle.sk_constr.specs.Fits.{BranchesAreNarrow};
 
 use crate::{generate, print_constraints};
 use sk_base::{Names, NoMemory, Seq};
@@ -68,7 +70,11 @@ key go 0
 2 -> out (2.0)
 ";
 
-fn checked(alloc: Global, definition: &[u8]) -> Result<Checked, NoMemory> {
+/// The well-sorted definition of a text.
+#[tactic(auto, using(crate::proofs::Narrow::branches_are_narrow))]
+fn checked(alloc: Global, definition: &[u8]) -> Result<Checked, NoMemory>
+    ensures { IfOk result (λ checked. BranchesAreNarrow checked) }
+{
     if definition.len() > 1_000_000 {
         return Err(NoMemory);
     }
@@ -81,8 +87,25 @@ fn checked(alloc: Global, definition: &[u8]) -> Result<Checked, NoMemory> {
     }
 }
 
-/// The cover line of the first hook at the root without inputs.
-fn root(alloc: Global) -> Result<Covers<Sign>, NoMemory> {
+/// The cover line of the first hook at the root without inputs. Fails also where the hook takes another sort or inputs.
+fn root(alloc: Global, checked: &Checked, arena: &Arena) -> Result<Covers<Sign>, NoMemory>
+    ensures { IfOk result (All (CoverFits checked.now arena.now arena.now.names)) }
+{
+    let def = checked.def();
+    if def.hooks.len() == 0 {
+        return Err(NoMemory);
+    }
+    if arena.count() == 0 {
+        return Err(NoMemory);
+    }
+    let hook = def.hooks.get(0);
+    let sort = arena.sort_at(0);
+    if sort.0 != hook.sort.0 {
+        return Err(NoMemory);
+    }
+    if hook.inputs.len() != 0 {
+        return Err(NoMemory);
+    }
     let mut covers = Seq::new(alloc);
     covers.push(Cover {
         hook: HookId(0),
@@ -114,16 +137,17 @@ fn program(
     }
 }
 
-/// The text of the constraints of a program over signs.
+/// The text of the constraints of a program over signs, with that cover line.
 fn constraints_of(
     alloc: Global,
     checked: &Checked,
     arena: &Arena,
     names: &Names,
 ) -> Result<Vec<u8>, NoMemory>
-    requires { IsProgramOf checked.now arena.now }
+    requires program { IsProgramOf checked.now arena.now }
+    requires narrow { BranchesAreNarrow checked.now }
 {
-    let covers = root(alloc)?;
+    let covers = root(alloc, checked, arena)?;
     let list = generate(alloc, checked, arena, &covers)?;
     print_constraints(alloc, checked.def(), names, &list)
 }
