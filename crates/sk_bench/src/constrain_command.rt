@@ -1,8 +1,10 @@
 //! The command `constrain`.
-ghost use Rattle.std.specs.Prelude.{◌≡◌, ◌≤◌, length};
+ghost use Rattle.std.specs.Prelude.{◌≡◌, ◌≤◌, length, All};
+ghost use Rattle.sk_constr.specs.Fits.{BranchesAreNarrow};
 ghost use Rattle.sk_term.specs.Program.{IsProgramOf};
 ghost use Rattle.sk_bench.specs.Commands.{job_plan, survey};
 ghost use Rattle.sk_bench.specs.JobText.{seen};
+ghost use Rattle.sk_bench.specs.Jobs.{CallsFit, CoverFits};
 ghost use Rattle.sk_bench.specs.Following.{Prepares};
 ghost use Rattle.sk_bench.specs.Surveying.{Makes, Surveys};
 ghost use Rattle.sk_bench.specs.Surveys.{IsConstraintsText};
@@ -32,6 +34,8 @@ pub(crate) fn constrain(
     requires short { length text.now ≤ LIMIT }
     requires program { IsProgramOf checked.now job.now.arena }
     requires over { job.now.arena.names ≡ length job.now.names }
+    requires calls { CallsFit checked.now (seen job.now) }
+    requires narrow { BranchesAreNarrow checked.now }
     ensures { Prepares (job_plan (JobCommand.Constrain domain) checked.now text.now (seen job.now)) result }
 {
     match domain {
@@ -54,6 +58,8 @@ fn constrain_over<D: NumDom>(
     requires short { length text.now ≤ LIMIT }
     requires program { IsProgramOf checked.now job.now.arena }
     requires over { job.now.arena.names ≡ length job.now.names }
+    requires calls { All (CoverFits checked.now job.now.arena.nodes (length job.now.names)) covers.now }
+    requires narrow { BranchesAreNarrow checked.now }
     ensures { Surveys (IsConstraintsText D.domain D.texts) checked.now (seen job.now) text.now covers.now result }
 {
     if covers.is_empty() {
@@ -73,6 +79,8 @@ fn constraints<D: NumDom>(
 ) -> Result<Output, Stop>
     requires program { IsProgramOf checked.now job.now.arena }
     requires over { job.now.arena.names ≡ length job.now.names }
+    requires calls { All (CoverFits checked.now job.now.arena.nodes (length job.now.names)) covers.now }
+    requires narrow { BranchesAreNarrow checked.now }
     ensures { Makes (IsConstraintsText D.domain D.texts (survey checked.now (seen job.now) covers.now)) result }
 {
     let list = generate(alloc, checked, &job.arena, covers)?;

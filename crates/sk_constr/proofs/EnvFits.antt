@@ -1,5 +1,5 @@
 -- What the variables of a rule stand for has the sorts of the variables.
-use Rattle.std.proofs.Common.{◌≡◌, ℕ, zero, suc, ◌+◌, ◌≤◌, List, [], ◌∷◌, map, length, replicate, Option, Some, None, refl, sym, ◌∙◌, ap, subst, arith}
+use Rattle.std.proofs.Common.{◌≡◌, ℕ, zero, suc, ◌+◌, ◌<◌, ◌≤◌, List, [], ◌∷◌, map, length, replicate, Option, Some, None, refl, sym, ◌∙◌, ap, subst, arith}
 use Rattle.std.specs.Prelude.{slice_get, slice_set, slice_index_or, unwrap_or}
 use Rattle.std.specs.List.{AllByRecursion, AllZip, filter_map}
 use Rattle.std.specs.Option.{option_and_then}
@@ -100,7 +100,7 @@ module _ (d : Def) (nodes : List TermNode) (names : ℕ) (positions : List (List
   -- an entry has the sort of its variable
   abbrev pub EntryFits : VarSort → Entry Place → Type 0
   EntryFits variable.Number (Entry.Number z) = Unit {0}
-  EntryFits variable.Name (Entry.Name n) = Unit {0}
+  EntryFits variable.Name (Entry.Name n) = n < names
   EntryFits (variable.Term sort) (Entry.Point p) = IsSortOfPoint d nodes p sort
   EntryFits (variable.Flow sort) (Entry.Flow place) = sort_at positions place.position place.entry ≡ Some sort
   EntryFits _ _ = ⊥
@@ -125,28 +125,28 @@ module _ (d : Def) (nodes : List TermNode) (names : ℕ) (positions : List (List
       there (Some x) None m e = absurd m
       there (Some x) (Some y) m e = let same : x ≡ sort = cc in subst (λ x. EntryFits x y) same m
 
-  operand_fits : (sort : VarSort) → IsArgSort sort → (e : Entry Place) → EntryFits sort e → Has (OperandFits positions sort) (operand_in e)
+  operand_fits : (sort : VarSort) → IsArgSort sort → (e : Entry Place) → EntryFits sort e → Has (OperandFits names positions sort) (operand_in e)
   operand_fits variable.Number k (Entry.Number z) h = tt
-  operand_fits variable.Name k (Entry.Name n) h = tt
+  operand_fits variable.Name k (Entry.Name n) h = h
   operand_fits (variable.Flow f) k (Entry.Flow place) h = h
   operand_fits (variable.Term t) k e h = absurd k
   operand_fits _ k _ h = absurd h
 
   -- variables of these sorts are operands of them
-  pub operands_fit : (g : Sorts) (env : PlaceEnv) → EnvFits g env → (vars : List Var) (sorts : List VarSort) → AllByRecursion IsArgSort sorts → HaveSorts g vars sorts → OperandsFit positions sorts (operands_at env vars)
+  pub operands_fit : (g : Sorts) (env : PlaceEnv) → EnvFits g env → (vars : List Var) (sorts : List VarSort) → AllByRecursion IsArgSort sorts → HaveSorts g vars sorts → OperandsFit names positions sorts (operands_at env vars)
   operands_fit g env h [] [] p e = tt
   operands_fit g env h [] (s ∷ sorts) p e = absurd cc
   operands_fit g env h (v ∷ vars) [] p e = absurd cc
   operands_fit g env h (v ∷ vars) (s ∷ sorts) p e =
       let first : sort_of g v ≡ Some s = cc in
       let rest : map (sort_of g) vars ≡ map Some sorts = cc in
-      by (operand_of env v) refl (then_has (EntryFits s) (OperandFits positions s) operand_in (operand_fits s p.0) (entry_of env v) (entry_there g env v s h first)) (operands_fit g env h vars sorts p.1 rest)
+      by (operand_of env v) refl (then_has (EntryFits s) (OperandFits names positions s) operand_in (operand_fits s p.0) (entry_of env v) (entry_there g env v s h first)) (operands_fit g env h vars sorts p.1 rest)
     where
-      by : (o : Option Operand) → operand_of env v ≡ o → Has (OperandFits positions s) o → OperandsFit positions sorts (operands_at env vars) → OperandsFit positions (s ∷ sorts) (operands_at env (v ∷ vars))
+      by : (o : Option Operand) → operand_of env v ≡ o → Has (OperandFits names positions s) o → OperandsFit names positions sorts (operands_at env vars) → OperandsFit names positions (s ∷ sorts) (operands_at env (v ∷ vars))
       by None k a b = absurd a
-      by (Some x) k a b = subst (OperandsFit positions (s ∷ sorts)) (sym (one_operand env v vars x k)) (a, b)
+      by (Some x) k a b = subst (OperandsFit names positions (s ∷ sorts)) (sym (one_operand env v vars x k)) (a, b)
 
-  pub counted : (sorts : List VarSort) (operands : List Operand) → OperandsFit positions sorts operands → length operands ≡ length sorts
+  pub counted : (sorts : List VarSort) (operands : List Operand) → OperandsFit names positions sorts operands → length operands ≡ length sorts
   counted [] [] h = refl
   counted [] (o ∷ os) h = absurd h
   counted (s ∷ sorts) [] h = absurd h
@@ -200,7 +200,7 @@ module _ (d : Def) (nodes : List TermNode) (names : ℕ) (positions : List (List
 
   child_fits : (c : Child) (a : ArgSort) → ChildFits d nodes names c a → EntryFits (arg_sort a) (entry_of_child c)
   child_fits (Child.Number z) arg.Number h = tt
-  child_fits (Child.Name n) arg.Name h = tt
+  child_fits (Child.Name n) arg.Name h = h
   child_fits (Child.Point p) (arg.Term sort) h = h
   child_fits _ _ h = absurd h
 

@@ -4,6 +4,7 @@ use Rattle.std.specs.Prelude.{slice_get, slice_set, slice_index, slice_index_or}
 use Rattle.std.specs.List.{AllByRecursion, AllZip, filter_map, flat_map}
 use Rattle.std.specs.Option.{option_map_or, option_and_then}
 use Rattle.std.proofs.lemmas.List.{length-drop, length-map}
+use Rattle.std.proofs.lemmas.Option.{slice_get_within}
 use Rattle.std.proofs.lemmas.List.Elements.{recursion_from_All}
 use Rattle.std.proofs.lemmas.List.Sums.{sum_by-cons, sum_by-take-drop}
 use Rattle.sk_base.specs.declared.flow.FlowSort.{FlowSort}
@@ -34,7 +35,7 @@ use Rattle.sk_constr.specs.declared.line.KeyLines.{KeyLines}
 use Rattle.sk_constr.specs.Operands.{PlaceEnv, places, operands_at}
 use Rattle.sk_constr.specs.Positions.{flow_sort, exported_sorts, sorts_at_ends, branch_sorts, positions_of}
 use Rattle.sk_constr.specs.Lines.{env_after, last_position, line_at, lines_of}
-use Rattle.sk_constr.specs.Fits.{OperandsFit, ValuesFit, IsCalled, FilterFits, CallFits, JoinFits, PartFits, BranchIsNarrow}
+use Rattle.sk_constr.specs.Fits.{OperandsFit, ValuesFit, IsCalled, FilterFits, CallFits, JoinFits, LineFits, BranchIsNarrow}
 use Rattle.sk_constr.proofs.EnvFits.{Has, EnvFits, IsArgSort, parameters_are_args, flows_are_args, map_flows, operands_fit, counted, target_there, gain_fits}
 use Rattle.sk_constr.proofs.FlowSorts.{flows_stay}
 use Rattle.sk_constr.proofs.NewFlows.{IsFlowSort, IfThere, results_flow, adds_flows, exports_are_flows}
@@ -182,23 +183,24 @@ module _ (d : Def) (nodes : List TermNode) (names : ℕ) (keys : List KeyLines) 
     (calls : (id : HookId) (p : ℕ) (h : Hook) → slice_get d.hooks id.0 ≡ Some h → IsSortOfPoint d nodes p h.sort → IsCalled keys id p h.inputs h.outputs)
     (few : (id : HookId) (h : Hook) → slice_get d.hooks id.0 ≡ Some h → length h.inputs ≤ 8) where
   abbrev pub LinesOk : List Line → Type 0
-  LinesOk = AllByRecursion (λ (line : Line). PartFits keys key line.part)
+  LinesOk = AllByRecursion (LineFits names keys key)
 
   abbrev pub Fits : Sorts → PlaceEnv → Type 0
   Fits = EnvFits d nodes names key.positions
 
-  -- the lines of bones fit, and what stands after them
+  -- the lines of bones fit, and what stands after them; the last position is there
   pub record Fine (n first from : ℕ) (g h : Sorts) (env : PlaceEnv) (bones : List Bone) : Type 0 where
     pub lines : LinesOk (lines_of point n first from env bones)
+    pub last_there : last_position n first from bones < length key.positions
     pub ends_fit : Fits h (env_after n first env bones)
 
   -- the values of variables
-  pub values_fit : (g : Sorts) (env : PlaceEnv) (vars : List Var) (sorts : List FlowSort) → Fits g env → length sorts ≤ 8 → HaveSorts g vars (map VarSort.Flow sorts) → ValuesFit key.positions sorts (operands_at env vars)
+  pub values_fit : (g : Sorts) (env : PlaceEnv) (vars : List Var) (sorts : List FlowSort) → Fits g env → length sorts ≤ 8 → HaveSorts g vars (map VarSort.Flow sorts) → ValuesFit names key.positions sorts (operands_at env vars)
   values_fit g env vars sorts h l e =
       let fit = operands_fit d nodes names key.positions g env h vars (map VarSort.Flow sorts) (flows_are_args sorts) e in
       record { few = omega (arith, l, counted d nodes names key.positions (map VarSort.Flow sorts) (operands_at env vars) fit, length-map sorts VarSort.Flow); fit = fit }
 
-  filter_fits : (first : ℕ) (g : Sorts) (env : PlaceEnv) (filter : Filter) (args outs : List Var) → Fits g env → FilterPasses g filter args outs → slice_get key.positions first ≡ Some (filter_map flow_sort (results filter)) → FilterFits key first filter (operands_at env args)
+  filter_fits : (first : ℕ) (g : Sorts) (env : PlaceEnv) (filter : Filter) (args outs : List Var) → Fits g env → FilterPasses g filter args outs → slice_get key.positions first ≡ Some (filter_map flow_sort (results filter)) → FilterFits names key first filter (operands_at env args)
   filter_fits first g env filter args outs h p e = record { args_fit = operands_fit d nodes names key.positions g env h args (parameters filter) (parameters_are_args filter) p.args_fit; to_is = e }
 
   after_filter_fits : (first : ℕ) (g : Sorts) (env : PlaceEnv) (filter : Filter) (args outs : List Var) → Fits g env → FilterPasses g filter args outs → slice_get key.positions first ≡ Some (filter_map flow_sort (results filter)) → Fits (after_filter g filter outs) (gain env outs (places first outs))
@@ -214,25 +216,28 @@ module _ (d : Def) (nodes : List TermNode) (names : ℕ) (keys : List KeyLines) 
       subst (λ ss. Fits (define g outs ss) (gain env outs (places first outs))) (sym (map_flows (outputs_of d id)))
       (gain_fits d nodes names key.positions g env first outs (outputs_of d id) h e (p.outs_counted ∙ ap length (sym (outputs_are id p.hook p.declared))))
 
-  call_fits : (first from : ℕ) (g : Sorts) (env : PlaceEnv) (id : HookId) (args : List Var) (target : Target) (outs : List Var) → Fits g env → HookPasses d own g id args target outs → slice_get key.positions first ≡ Some (outputs_of d id) →
+  call_fits : (first from : ℕ) (g : Sorts) (env : PlaceEnv) (id : HookId) (args : List Var) (target : Target) (outs : List Var) → from < length key.positions → Fits g env → HookPasses d own g id args target outs → slice_get key.positions first ≡ Some (outputs_of d id) →
       LinesOk (option_map_or (λ at. line_at from (Part.Call first id at (operands_at env args)) ∷ []) (target_at point env target) [])
-  call_fits first from g env id args target outs h p e =
+  call_fits first from g env id args target outs there h p e =
       by (target_at point env target) (target_there d nodes names key.positions g env h own point own_is target p.hook.sort p.target_fits)
     where
       by : (o : Option ℕ) → Has (λ q. IsSortOfPoint d nodes q p.hook.sort) o → LinesOk (option_map_or (λ at. line_at from (Part.Call first id at (operands_at env args)) ∷ []) o [])
       by None k = absurd k
       by (Some q) k = (
         record {
-          inputs = p.hook.inputs;
-          outputs = p.hook.outputs;
-          called = calls id q p.hook p.declared k;
-          args_fit = values_fit g env args p.hook.inputs h (few id p.hook p.declared) p.args_fit;
-          to_is = e ∙ ap Some (outputs_are id p.hook p.declared);
+          from_there = there;
+          part_fits = record {
+            inputs = p.hook.inputs;
+            outputs = p.hook.outputs;
+            called = calls id q p.hook p.declared k;
+            args_fit = values_fit g env args p.hook.inputs h (few id p.hook p.declared) p.args_fit;
+            to_is = e ∙ ap Some (outputs_are id p.hook p.declared);
+          };
         },
         tt,
       )
 
-  join_fits : (first : ℕ) (e : Sorts) (env : PlaceEnv) (exports : List Var) (exported : List VarSort) → Fits e env → length exports ≤ 8 → HaveSorts e exports exported → AllByRecursion IsFlowSort exported → slice_get key.positions first ≡ Some (filter_map flow_sort exported) → JoinFits key first (operands_at env exports)
+  join_fits : (first : ℕ) (e : Sorts) (env : PlaceEnv) (exports : List Var) (exported : List VarSort) → Fits e env → length exports ≤ 8 → HaveSorts e exports exported → AllByRecursion IsFlowSort exported → slice_get key.positions first ≡ Some (filter_map flow_sort exported) → JoinFits names key first (operands_at env exports)
   join_fits first e env exports exported h l have flows at =
       let same = flows_back exported flows in
       let long : length exports ≡ length exported = sym (length-map exports (sort_of e)) ∙ ap length have ∙ length-map exported Some in
@@ -258,7 +263,7 @@ module _ (d : Def) (nodes : List TermNode) (names : ℕ) (keys : List KeyLines) 
       (each : (k : ℕ) → k < length counts → (h : Sorts) → Sorted d own (first_of_branch first counts k) (branch counts k bones) g h → Stands key.positions (first_of_branch first counts k) (positions_of d n g (branch counts k bones)) →
       Fine n (first_of_branch first counts k) from g h env (branch counts k bones))
       (long : (k : ℕ) → k < length counts → length (positions_of d n g (branch counts k bones)) ≡ length (branch counts k bones))
-      (join : (e : Sorts) (ends : PlaceEnv) → Fits e ends → HaveSorts e exports exported → JoinFits key first (operands_at ends exports))
+      (join : (e : Sorts) (ends : PlaceEnv) → Fits e ends → HaveSorts e exports exported → JoinFits names key first (operands_at ends exports))
       (within : sum counts ≤ length bones) where
     branches_fine : (cs : List ℕ) (i : ℕ) (ends : List Sorts) (later : List (List FlowSort)) → drop i counts ≡ cs → i + length cs ≡ length counts → SortedBranches d own first counts bones (branch_places i cs) g ends →
         AllByRecursion (λ e. HaveSorts e exports exported) ends → Stands key.positions (first_of_branch first counts i) (flat_map (λ k. positions_of d n g (branch counts k bones)) (branch_places i cs) ++ later) →
@@ -280,9 +285,9 @@ module _ (d : Def) (nodes : List TermNode) (names : ℕ) (keys : List KeyLines) 
         (omega (arith, long i (omega (arith, m)), branch_long counts i c cs bones e within, sizes)) st2 in
         let rest = branches_fine cs (i + 1) b.more later (drop_next i counts cs c e) (omega (arith, m)) b.later agree.1 st3 in
         record {
-          lines = each_append (λ (line : Line). PartFits keys key line.part) (branch_lines_of n first from env counts exports bones i) _
-              (each_append (λ (line : Line). PartFits keys key line.part) (lines_of point n (first_of_branch first counts i) from env (branch counts i bones)) _ here.lines
-              (join b.end (env_after n (first_of_branch first counts i) env (branch counts i bones)) here.ends_fit agree.0, tt))
+          lines = each_append (LineFits names keys key) (branch_lines_of n first from env counts exports bones i) _
+              (each_append (LineFits names keys key) (lines_of point n (first_of_branch first counts i) from env (branch counts i bones)) _ here.lines
+              (record { from_there = here.last_there; part_fits = join b.end (env_after n (first_of_branch first counts i) env (branch counts i bones)) here.ends_fit agree.0 }, tt))
               rest.lines;
           after = rest.after;
         }
@@ -339,29 +344,36 @@ module _ (d : Def) (nodes : List TermNode) (names : ℕ) (keys : List KeyLines) 
   ends_sorted n first g counts bones l ks ends z = ends_of n first g counts bones (λ k e y. sorts_are n (first_of_branch first counts k) g e (branch counts k bones) (shorter-branch n k counts bones l) y) ks ends z
 
   pub fine : (n first from : ℕ) (g h : Sorts) (env : PlaceEnv) (bones : List Bone) (nesting : ℕ) → length bones ≤ n → BonesFit hooks vars nesting bones → AllByRecursion BranchIsNarrow bones → Sorted d own first bones g h → Fits g env →
-      Stands key.positions first (positions_of d n g bones) → Fine n first from g h env bones
-  fine n first from g h env [] nesting l f w s e st = let same = Sorted-nothing d own s in record { lines = tt; ends_fit = subst (λ k. Fits k env) same e }
-  fine zero first from g h env (b ∷ bones) nesting l f w s e st = absurd (omega (arith, l))
-  fine (suc n) first from g h env (Apply filter args outs ∷ rest) nesting l f w s e st =
+      Stands key.positions first (positions_of d n g bones) → from < length key.positions → Fine n first from g h env bones
+  fine n first from g h env [] nesting l f w s e st there = let same = Sorted-nothing d own s in record { lines = tt; last_there = there; ends_fit = subst (λ k. Fits k env) same e }
+  fine zero first from g h env (b ∷ bones) nesting l f w s e st there = absurd (omega (arith, l))
+  fine (suc n) first from g h env (Apply filter args outs ∷ rest) nesting l f w s e st there =
       let p = Sorted-filter d own s in
       let at = stands_first key.positions first (filter_map flow_sort (results filter)) (positions_of d n (after_filter g filter outs) rest) st in
       let env2 = gain env outs (places first outs) in
       let r = fine n (first + 1) first (after_filter g filter outs) h env2 rest nesting (omega (arith, l)) (BonesFit-filter f).2 w.1 p.1
-      (after_filter_fits first g env filter args outs e p.0 at) (stands_next key.positions first (filter_map flow_sort (results filter)) (positions_of d n (after_filter g filter outs) rest) st) in
+      (after_filter_fits first g env filter args outs e p.0 at) (stands_next key.positions first (filter_map flow_sort (results filter)) (positions_of d n (after_filter g filter outs) rest) st)
+      (slice_get_within key.positions first (filter_map flow_sort (results filter)) at) in
       let more : first + 1 ≡ first + 1 + 0 = omega arith in
-      record { lines = (filter_fits first g env filter args outs e p.0 at, r.lines); ends_fit = subst (λ k. Fits h (env_after n k env2 rest)) more r.ends_fit }
-  fine (suc n) first from g h env (Call id args target outs ∷ rest) nesting l f w s e st =
+      record {
+        lines = (record { from_there = there; part_fits = filter_fits first g env filter args outs e p.0 at }, r.lines);
+        last_there = subst (λ k. last_position n k first rest < length key.positions) more r.last_there;
+        ends_fit = subst (λ k. Fits h (env_after n k env2 rest)) more r.ends_fit;
+      }
+  fine (suc n) first from g h env (Call id args target outs ∷ rest) nesting l f w s e st there =
       let p = Sorted-hook d own s in
       let at = stands_first key.positions first (outputs_of d id) (positions_of d n (after_hook d g id outs) rest) st in
       let env2 = gain env outs (places first outs) in
       let r = fine n (first + 1) first (after_hook d g id outs) h env2 rest nesting (omega (arith, l)) (BonesFit-hook f).4 w.1 p.1
-      (after_hook_fits first g env id args target outs e p.0 at) (stands_next key.positions first (outputs_of d id) (positions_of d n (after_hook d g id outs) rest) st) in
+      (after_hook_fits first g env id args target outs e p.0 at) (stands_next key.positions first (outputs_of d id) (positions_of d n (after_hook d g id outs) rest) st)
+      (slice_get_within key.positions first (outputs_of d id) at) in
       let more : first + 1 ≡ first + 1 + 0 = omega arith in
       record {
-        lines = each_append (λ (line : Line). PartFits keys key line.part) (option_map_or (λ at. line_at from (Part.Call first id at (operands_at env args)) ∷ []) (target_at point env target) []) _ (call_fits first from g env id args target outs e p.0 at) r.lines;
+        lines = each_append (LineFits names keys key) (option_map_or (λ at. line_at from (Part.Call first id at (operands_at env args)) ∷ []) (target_at point env target) []) _ (call_fits first from g env id args target outs there e p.0 at) r.lines;
+        last_there = subst (λ k. last_position n k first rest < length key.positions) more r.last_there;
         ends_fit = subst (λ k. Fits h (env_after n k env2 rest)) more r.ends_fit;
       }
-  fine (suc n) first from g h env (Either counts exports ∷ rest) nesting l f w s e st =
+  fine (suc n) first from g h env (Either counts exports ∷ rest) nesting l f w s e st there =
       let p = Sorted-either d own s in
       let b = BonesFit-either f in
       let short : length rest ≤ n = omega (arith, l) in
@@ -375,7 +387,7 @@ module _ (d : Def) (nodes : List TermNode) (names : ℕ) (keys : List KeyLines) 
       let st2 = subst (λ k. Stands key.positions k (inner ++ later)) start (stands_next key.positions first (sorts_at_ends exports (branch_sorts d n g counts rest)) (inner ++ later) st) in
       let flows = exported_flow n first g counts exports rest p.ends one p.merges in
       let br = branches_fine n first from g env counts exports rest p.merges.exported
-      (λ k lt z sorted stands. fine n (first_of_branch first counts k) from g z env (branch counts k rest) b.inner (shorter-branch n k counts rest short) (b.branches k lt) (each_take BranchIsNarrow (slice_index counts k) (drop (sum (take k counts)) rest) (each_drop BranchIsNarrow (sum (take k counts)) rest w.1)) sorted e stands)
+      (λ k lt z sorted stands. fine n (first_of_branch first counts k) from g z env (branch counts k rest) b.inner (shorter-branch n k counts rest short) (b.branches k lt) (each_take BranchIsNarrow (slice_index counts k) (drop (sum (take k counts)) rest) (each_drop BranchIsNarrow (sum (take k counts)) rest w.1)) sorted e stands there)
       (λ k lt. many_positions d hooks vars n (branch counts k rest) g b.inner (shorter-branch n k counts rest short) (b.branches k lt))
       (λ z env3 fits have. join_fits first z env3 exports p.merges.exported fits w.0 have flows at)
       b.within counts 0 p.ends later refl (omega arith) p.branches (recursion_from_All (λ z. HaveSorts z exports p.merges.exported) p.ends p.merges.ends_agree) st2 in
@@ -384,8 +396,10 @@ module _ (d : Def) (nodes : List TermNode) (names : ℕ) (keys : List KeyLines) 
       subst (λ z. Fits z env2) (sym (merged_is n first g counts exports rest p.ends one p.merges))
       (gain_fits d nodes names key.positions g env first exports (filter_map flow_sort p.merges.exported) e at (exports_many n first g counts exports rest p.ends one p.merges)) in
       let r = fine n (first + 1 + sum counts) first (after_merge g exports p.ends) h env2 (after_branches counts rest) b.outer (shorter-drop n (sum counts) rest short) b.later (each_drop BranchIsNarrow (sum counts) rest w.1) p.later fits2
-      (subst (λ es. Stands key.positions (first + 1 + sum counts) (positions_of d n (after_merge g exports es) (after_branches counts rest))) (sym ends) br.after) in
+      (subst (λ es. Stands key.positions (first + 1 + sum counts) (positions_of d n (after_merge g exports es) (after_branches counts rest))) (sym ends) br.after)
+      (slice_get_within key.positions first (filter_map flow_sort p.merges.exported) at) in
       record {
-        lines = each_append (λ (line : Line). PartFits keys key line.part) (flat_map (branch_lines_of n first from env counts exports rest) (branch_places 0 counts)) _ br.lines r.lines;
+        lines = each_append (LineFits names keys key) (flat_map (branch_lines_of n first from env counts exports rest) (branch_places 0 counts)) _ br.lines r.lines;
+        last_there = r.last_there;
         ends_fit = r.ends_fit;
       }

@@ -25,13 +25,12 @@ use Rattle.sk_term.proofs.Entries.{entries_fit}
 use Rattle.sk_table.specs.Fits.{CoverFits}
 use Rattle.sk_table.specs.Tables.{has_sort_at}
 use Rattle.sk_table.specs.declared.triple.Cover.{Cover}
-use Rattle.sk_constr.specs.declared.line.Line.{Line}
 use Rattle.sk_constr.specs.declared.line.KeyLines.{KeyLines}
-use Rattle.sk_constr.specs.declared.constraints.Constraints.{Constraints}
+use Rattle.sk_constr.specs.declared.constraint_list.ConstraintList.{ConstraintList}
 use Rattle.sk_constr.specs.Positions.{positions_of}
 use Rattle.sk_constr.specs.Lines.{env_after, lines_of}
 use Rattle.sk_constr.specs.Keys.{first_env, AreConstraints, RuleOfKey, key_by_rule, lines_of_key}
-use Rattle.sk_constr.specs.Fits.{is_lines_of, IsCalled, PartFits, LinesFit, BranchIsNarrow, CoverLineFits, CoverLinesFit, BranchesAreNarrow, ConstraintsFit}
+use Rattle.sk_constr.specs.Fits.{is_lines_of, IsCalled, LineFits, LinesFit, BranchIsNarrow, CoverLineFits, CoverLinesFit, BranchesAreNarrow, ConstraintsFit}
 use Rattle.sk_constr.proofs.EnvFits.{start_fits}
 use Rattle.sk_constr.proofs.LinesFit.{Stands, fine, values_fit}
 use Rattle.sk_constr.proofs.KeyTurns.{takes_is}
@@ -244,10 +243,10 @@ module _ (d : Def) (program : Program) (sorted : DefinitionIsSorted d) (is_progr
   few_flows id h e = let f = all_at (HookFits (length d.sorts)) d.hooks id.0 h sorted.well_sorted.fits.hooks_fit e in (omega (arith, f.few_inputs), omega (arith, f.few_outputs))
 
   -- the lines of a key fit
-  lines_fit : BranchesAreNarrow d → (k : HookId × ℕ) (key : KeyLines) → Made d program.nodes k key → LinesFit list key
-  lines_fit narrow k key m = subst (LinesFit list) (sym m.is) (by_rule (key_by_rule d k.0 k.1 m.of.node m.rule m.hook m.con) refl)
+  lines_fit : BranchesAreNarrow d → (k : HookId × ℕ) (key : KeyLines) → Made d program.nodes k key → LinesFit program.names list key
+  lines_fit narrow k key m = subst (LinesFit program.names list) (sym m.is) (by_rule (key_by_rule d k.0 k.1 m.of.node m.rule m.hook m.con) refl)
     where
-      by_rule : (made : KeyLines) → made ≡ key_by_rule d k.0 k.1 m.of.node m.rule m.hook m.con → LinesFit list (key_by_rule d k.0 k.1 m.of.node m.rule m.hook m.con)
+      by_rule : (made : KeyLines) → made ≡ key_by_rule d k.0 k.1 m.of.node m.rule m.hook m.con → LinesFit program.names list (key_by_rule d k.0 k.1 m.of.node m.rule m.hook m.con)
       by_rule made e =
           let size = length m.rule.bones in
           let key = key_by_rule d k.0 k.1 m.of.node m.rule m.hook m.con in
@@ -261,17 +260,20 @@ module _ (d : Def) (program : Program) (sorted : DefinitionIsSorted d) (is_progr
           let stands : Stands key.positions 1 (positions_of d size (header_sorts m.rule m.hook m.con) m.rule.bones) = record { rest = []; is = sym (append-nil (positions_of d size (header_sorts m.rule m.hook m.con) m.rule.bones)) } in
           let bones_narrow = recursion_from_All BranchIsNarrow m.rule.bones (all_at (λ (rule : Rule). All BranchIsNarrow rule.bones) d.rules m.of.place m.rule narrow m.of.stands) in
           let whole = fine d program.nodes program.names list key m.con.sort k.1 (length d.hooks) (length m.rule.vars) own called_there (λ id h declared. (few_flows id h declared).0)
-          size 1 0 (header_sorts m.rule m.hook m.con) m.of.after (first_env m.rule m.of.node) m.rule.bones 8 (omega arith) m.of.bones_fit bones_narrow m.of.bones_sorted start stands in
-          each_append (λ (line : Line). PartFits list key line.part) (lines_of k.1 size 1 0 (first_env m.rule m.of.node) m.rule.bones) _ whole.lines (
-            values_fit d program.nodes program.names list key m.con.sort k.1 (length d.hooks) (length m.rule.vars) own called_there (λ id h declared. (few_flows id h declared).0)
-                m.of.after (env_after size 1 (first_env m.rule m.of.node) m.rule.bones) m.rule.outputs m.hook.outputs whole.ends_fit (few_flows k.0 m.hook m.of.hook_is).1 m.of.outputs_sorted,
+          size 1 0 (header_sorts m.rule m.hook m.con) m.of.after (first_env m.rule m.of.node) m.rule.bones 8 (omega arith) m.of.bones_fit bones_narrow m.of.bones_sorted start stands (slice_get_within key.positions 0 m.hook.inputs refl) in
+          each_append (LineFits program.names list key) (lines_of k.1 size 1 0 (first_env m.rule m.of.node) m.rule.bones) _ whole.lines (
+            record {
+              from_there = whole.last_there;
+              part_fits = values_fit d program.nodes program.names list key m.con.sort k.1 (length d.hooks) (length m.rule.vars) own called_there (λ id h declared. (few_flows id h declared).0)
+                  m.of.after (env_after size 1 (first_env m.rule m.of.node) m.rule.bones) m.rule.outputs m.hook.outputs whole.ends_fit (few_flows k.0 m.hook m.of.hook_is).1 m.of.outputs_sorted;
+            },
             tt,
           )
 
-  all_lines_fit : BranchesAreNarrow d → AllByRecursion (LinesFit list) list
+  all_lines_fit : BranchesAreNarrow d → AllByRecursion (LinesFit program.names list) list
   all_lines_fit narrow = go (keys d program.nodes) list all_made
     where
-      go : (ks : List (HookId × ℕ)) (ls : List KeyLines) → AllZip (Made d program.nodes) ks ls → AllByRecursion (LinesFit list) ls
+      go : (ks : List (HookId × ℕ)) (ls : List KeyLines) → AllZip (Made d program.nodes) ks ls → AllByRecursion (LinesFit program.names list) ls
       go [] [] z = tt
       go [] (l ∷ ls) z = absurd z
       go (k ∷ ks) [] z = absurd z
@@ -301,11 +303,11 @@ module _ (d : Def) (program : Program) (sorted : DefinitionIsSorted d) (is_progr
   covers_fit [] h = tt
   covers_fit (cover ∷ covers) h = (cover_fits cover h.0, covers_fit covers h.1)
 
-pub constraints_fit : {D : Type 0} (d : Def) (program : Program) (covers : List (Cover D)) (list : Constraints D) → DefinitionIsSorted d → IsProgramOf d program → AreConstraints d program covers list →
+pub constraints_fit : {D : Type 0} (d : Def) (program : Program) (covers : List (Cover D)) (list : ConstraintList D) → DefinitionIsSorted d → IsProgramOf d program → AreConstraints d program covers list →
     BranchesAreNarrow d → All (CoverFits d program program.names) covers → ConstraintsFit list
 constraints_fit d program covers list sorted is_program are narrow fit =
     record {
       covers_fit = subst (λ cs. CoverLinesFit list.names list.keys cs) (sym are.covers_are)
           (subst (λ n. CoverLinesFit n list.keys covers) (sym are.names_are) (covers_fit d program sorted is_program list.keys are.keys_are covers (recursion_from_All (CoverFits d program program.names) covers fit)));
-      lines_fit = all_lines_fit d program sorted is_program list.keys are.keys_are narrow;
+      lines_fit = subst (λ n. AllByRecursion (LinesFit n list.keys) list.keys) (sym are.names_are) (all_lines_fit d program sorted is_program list.keys are.keys_are narrow);
     }

@@ -21,7 +21,7 @@ use Rattle.sk_table.specs.declared.triple.Cover.{Cover}
 use Rattle.sk_constr.specs.declared.line.Part.{Part}
 use Rattle.sk_constr.specs.declared.line.Line.{Line}
 use Rattle.sk_constr.specs.declared.line.KeyLines.{KeyLines}
-use Rattle.sk_constr.specs.declared.constraints.Constraints.{Constraints}
+use Rattle.sk_constr.specs.declared.constraint_list.ConstraintList.{ConstraintList}
 use Rattle.sk_constr.specs.Operands.{PlaceEnv, places, operands_at}
 use Rattle.sk_constr.specs.Positions.{positions_of}
 use Rattle.sk_constr.specs.Lines.{env_after, last_position, line_at, lines_of}
@@ -57,7 +57,7 @@ lines_of_key d nodes key =
 
 -- the list of constraints of a program: its number of names, the cover lines, and for every key, by point and then by the
 -- hook's place, its lines
-pub record AreConstraints {D : Type 0} (d : Def) (program : Program) (covers : List (Cover D)) (list : Constraints D) : Type 0 where
+pub record AreConstraints {D : Type 0} (d : Def) (program : Program) (covers : List (Cover D)) (list : ConstraintList D) : Type 0 where
   pub names_are : list.names ≡ program.names
   pub covers_are : list.covers ≡ covers
   pub keys_are : map Some list.keys ≡ map (lines_of_key d program.nodes) (keys d program.nodes)

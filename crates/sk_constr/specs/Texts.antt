@@ -14,7 +14,7 @@ use Rattle.sk_constr.specs.declared.line.Operand.{Operand}
 use Rattle.sk_constr.specs.declared.line.Part.{Part}
 use Rattle.sk_constr.specs.declared.line.Line.{Line}
 use Rattle.sk_constr.specs.declared.line.KeyLines.{KeyLines}
-use Rattle.sk_constr.specs.declared.constraints.Constraints.{Constraints}
+use Rattle.sk_constr.specs.declared.constraint_list.ConstraintList.{ConstraintList}
 
 -- a leaf as it is written, or an entry of a position
 abbrev pub operand_text : List (List ℕ) → Operand → List ℕ
@@ -48,6 +48,6 @@ module _ {D : Type 0} (domain : Domain D) (texts : DomainTexts D) where
   cover_text d names cover = codes "cover " ++ key_name d cover.hook cover.point ++ codes " " ++ tuple_text domain texts names cover.ins ++ codes "\n"
 
   -- the domain, the cover lines, and the keys
-  abbrev pub constraints_text : Def → List (List ℕ) → Constraints D → List ℕ
+  abbrev pub constraints_text : Def → List (List ℕ) → ConstraintList D → List ℕ
   constraints_text d names list =
       codes "constraints 1 " ++ texts.word ++ codes "\n" ++ flat_map (cover_text d names) list.covers ++ flat_map (key_text d names) list.keys

@@ -2,6 +2,7 @@
 //! outputs of its bones, and their text. The solver of constraints stands on this.
 #![tactic(auto)]
 
+mod constraint_list;
 mod constraints;
 mod env;
 mod interp;
@@ -9,10 +10,9 @@ mod line;
 mod making;
 mod print;
 mod start;
-#[cfg(test)]
-mod tests;
 mod world;
 
+pub use constraint_list::ConstraintList;
 pub use constraints::Constraints;
 pub use interp::GenInterp;
 pub use line::{KeyLines, Line, LineList, Operand, OperandList, Part, Place, SortsList};

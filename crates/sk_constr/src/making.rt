@@ -6,9 +6,10 @@ ghost use Rattle.sk_term.specs.Program.{IsProgramOf};
 ghost use Rattle.sk_term.specs.Terms.{takes_node, keys};
 ghost use Rattle.sk_constr.specs.Worlds.{closed};
 ghost use Rattle.sk_table.specs.Fits.{CoverFits};
-ghost use Rattle.sk_constr.specs.Fits.{BranchesAreNarrow, ConstraintsFit};
+ghost use Rattle.sk_constr.specs.Fits.{BranchesAreNarrow};
 ghost use Rattle.sk_constr.specs.Keys.{AreConstraints, lines_of_key, keys_at};
 
+use crate::constraint_list::ConstraintList;
 use crate::env::operands_at;
 use crate::line::{KeyLines, Line, Part};
 use crate::start::{RuleOf, rule_of_key, start};
@@ -131,24 +132,25 @@ fn copy_covers<D: NumDom>(alloc: Global, covers: &Covers<D>) -> Result<Covers<D>
 }
 
 /// The constraints of a program of the definition and of cover lines: for every key, by point and then by hook, the
-/// lines of its rule. They fit where the cover lines do, and no branch bone exports more than a tuple has room for. Fails
-/// only where memory is refused.
+/// lines of its rule. The cover lines are calls of keys of the program, with stores over its names, and a branch bone
+/// exports at most 8 variables. Fails only where memory is refused.
 pub fn generate<D: NumDom>(
     alloc: Global,
     checked: &Checked,
     arena: &Arena,
     covers: &Covers<D>,
 ) -> Result<Constraints<D>, NoMemory>
-    requires { IsProgramOf checked.now arena.now }
-    ensures made { IfOk result (AreConstraints checked.now arena.now covers.now) }
-    ensures fit { IfOk result (λ list. BranchesAreNarrow checked.now → All (CoverFits checked.now arena.now arena.now.names) covers.now → ConstraintsFit list) }
+    requires program { IsProgramOf checked.now arena.now }
+    requires narrow { BranchesAreNarrow checked.now }
+    requires fit { All (CoverFits checked.now arena.now arena.now.names) covers.now }
+    ensures { IfOk result (AreConstraints checked.now arena.now covers.now) }
 {
     let _sorted = checked.def();
     let covers = copy_covers(alloc, covers)?;
     let keys = all_keys(alloc, checked, arena)?;
-    Ok(Constraints {
+    Ok(Constraints::of(ConstraintList {
         names: arena.names(),
         covers,
         keys,
-    })
+    }))
 }

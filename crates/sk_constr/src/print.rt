@@ -242,7 +242,7 @@ pub fn print_constraints<D: NumDom>(
     put_bytes(&mut text, b"constraints 1 ")?;
     put_bytes(&mut text, D::domain_word().as_bytes())?;
     put_bytes(&mut text, b"\n")?;
-    put_covers(alloc, def, names, list.covers.as_slice(), &mut text)?;
-    put_keys(alloc, def, names, list.keys.as_slice(), &mut text)?;
+    put_covers(alloc, def, names, list.cover_lines().as_slice(), &mut text)?;
+    put_keys(alloc, def, names, list.all_keys(), &mut text)?;
     Ok(text)
 }

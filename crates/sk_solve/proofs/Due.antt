@@ -23,8 +23,8 @@ use Rattle.sk_constr.specs.declared.line.Operand.{Operand}
 use Rattle.sk_constr.specs.declared.line.Part.{Part}
 use Rattle.sk_constr.specs.declared.line.Line.{Line}
 use Rattle.sk_constr.specs.declared.line.KeyLines.{KeyLines}
-use Rattle.sk_constr.specs.declared.constraints.Constraints.{Constraints}
-use Rattle.sk_constr.specs.Fits.{is_lines_of, IsCalled, PartFits, LinesFit, CoverLineFits, ConstraintsFit}
+use Rattle.sk_constr.specs.declared.constraint_list.ConstraintList.{ConstraintList}
+use Rattle.sk_constr.specs.Fits.{is_lines_of, IsCalled, PartFits, LineFits, LinesFit, CoverLineFits, ConstraintsFit}
 use Rattle.sk_constr.specs.Positions.{flow_sort}
 use Rattle.sk_solve.specs.declared.assignment.Solved.{Solved}
 use Rattle.sk_solve.specs.declared.slot.Slot.{Slot}
@@ -102,20 +102,20 @@ module _ (D : Type 0) (d : Domain D) (laws : DomainLaws d) where
       (passes before t (Some u) (λ given. outcome_leq d (abstract_result d filter names given) target) u e refl h)
 
   -- Of an assignment below every solution, a line of a key and the key's entry, with something at the position before.
-  pub record AtLine (list : Constraints D) (at : ℕ) (line : Line) (a : List (Solved D)) (s : Solved D) : Type 0 where
+  pub record AtLine (list : ConstraintList D) (at : ℕ) (line : Line) (a : List (Solved D)) (s : Solved D) : Type 0 where
     pub key : KeyLines
     pub key_is : slice_get list.keys at ≡ Some key
-    pub fits : PartFits list.keys key line.part
+    pub fits : PartFits list.names list.keys key line.part
     pub of : IsOfKey d list.names key s
     pub entry_is : slice_get a at ≡ Some s
     pub above : (b : List (Solved D)) → Solves d list b → (t : Solved D) → slice_get b at ≡ Some t → KeyLies d s t × (line_holds d list.names b t line ≡ true)
 
-  pub at_line : (list : Constraints D) (at : ℕ) (line : Line) (a : List (Solved D)) (s : Solved D) → ConstraintsFit list → IsUnderway d list a → IsLineOf list at line → slice_get a at ≡ Some s → AtLine list at line a s
+  pub at_line : (list : ConstraintList D) (at : ℕ) (line : Line) (a : List (Solved D)) (s : Solved D) → ConstraintsFit list → IsUnderway d list a → IsLineOf list at line → slice_get a at ≡ Some s → AtLine list at line a s
   at_line list at line a s fit u l e =
       record {
         key = l.key;
         key_is = l.key_is;
-        fits = each_at (λ (m : Line). PartFits list.keys l.key m.part) l.key.lines l.place line (each_at (LinesFit list.keys) list.keys at l.key fit.lines_fit l.key_is) l.line_is;
+        fits = (each_at (LineFits list.names list.keys l.key) l.key.lines l.place line (each_at (LinesFit list.names list.keys) list.keys at l.key fit.lines_fit l.key_is) l.line_is).part_fits;
         of = both_at (IsOfKey d list.names) list.keys a at l.key s u.assigns l.key_is e;
         entry_is = e;
         above = λ b h t k. (
@@ -124,7 +124,7 @@ module _ (D : Type 0) (d : Domain D) (laws : DomainLaws d) where
         );
       }
 
-  module _ (list : Constraints D) (at : ℕ) (a : List (Solved D)) (s : Solved D) (from : ℕ) (before : List (AbsFlow D)) (there : value_at s.positions from ≡ Some before) where
+  module _ (list : ConstraintList D) (at : ℕ) (a : List (Solved D)) (s : Solved D) (from : ℕ) (before : List (AbsFlow D)) (there : value_at s.positions from ≡ Some before) where
     pub filter_due : (to : ℕ) (filter : Filter) (args : List Operand) → AtLine list at (record { from = from; part = Part.Filter to filter args }) a s →
         IsDue d list at (Slot.Position to) (option_and_then (abstract_result d filter list.names) (all_of (argument_at s.positions) args))
     filter_due to filter args l =
@@ -236,10 +236,10 @@ module _ (D : Type 0) (d : Domain D) (laws : DomainLaws d) where
 
   -- Cover lines.
 
-  pub cover_place : (list : Constraints D) (cover : Cover D) (fit : CoverLineFits list.names list.keys cover) → PlaceOf d list.names list.keys cover.hook cover.point fit.called.called
+  pub cover_place : (list : ConstraintList D) (cover : Cover D) (fit : CoverLineFits list.names list.keys cover) → PlaceOf d list.names list.keys cover.hook cover.point fit.called.called
   cover_place list cover fit = place_of D d list.names cover.hook cover.point fit.called.called list.keys fit.called.called_is
 
-  pub cover_due : (list : Constraints D) (cover : Cover D) (fit : CoverLineFits list.names list.keys cover) → IsCoverOf list cover → is_proper d cover.ins ≡ true → IsDue d list (cover_place list cover fit).at (Slot.Position 0) (Some cover.ins)
+  pub cover_due : (list : ConstraintList D) (cover : Cover D) (fit : CoverLineFits list.names list.keys cover) → IsCoverOf list cover → is_proper d cover.ins ≡ true → IsDue d list (cover_place list cover fit).at (Slot.Position 0) (Some cover.ins)
   cover_due list cover fit there proper =
       let place = cover_place list cover fit in
       record {
@@ -254,7 +254,7 @@ module _ (D : Type 0) (d : Domain D) (laws : DomainLaws d) where
       }
 
   -- a cover line holds where it lies in its slot
-  pub cover_held : (list : Constraints D) (cover : Cover D) (fit : CoverLineFits list.names list.keys cover) (a : List (Solved D)) → IsUnderway d list a → LiesIn d (cover_place list cover fit).at (Slot.Position 0) (Some cover.ins) a → cover_holds d list.names a cover ≡ true
+  pub cover_held : (list : ConstraintList D) (cover : Cover D) (fit : CoverLineFits list.names list.keys cover) (a : List (Solved D)) → IsUnderway d list a → LiesIn d (cover_place list cover fit).at (Slot.Position 0) (Some cover.ins) a → cover_holds d list.names a cover ≡ true
   cover_held list cover fit a u h =
       let place = cover_place list cover fit in
       let s = beside (IsOfKey d list.names) list.keys a place.at fit.called.called u.assigns place.is in
@@ -322,12 +322,13 @@ module _ (D : Type 0) (d : Domain D) (laws : DomainLaws d) where
 
   -- The same, from a line as it stands in the list.
 
-  module _ (list : Constraints D) (at : ℕ) (line : Line) (a : List (Solved D)) (fit : ConstraintsFit list) (u : IsUnderway d list a) (l : IsLineOf list at line) where
+  module _ (list : ConstraintList D) (at : ℕ) (line : Line) (a : List (Solved D)) (fit : ConstraintsFit list) (u : IsUnderway d list a) (l : IsLineOf list at line) where
     pub line_entry : at < length a
     line_entry = let b = beside (IsOfKey d list.names) list.keys a at l.key u.assigns l.key_is in slice_get_within a at b.other b.is
 
-    pub fits_of : (part : Part) → line.part ≡ part → PartFits list.keys l.key part
-    fits_of part e = subst (PartFits list.keys l.key) e (each_at (λ (m : Line). PartFits list.keys l.key m.part) l.key.lines l.place line (each_at (LinesFit list.keys) list.keys at l.key fit.lines_fit l.key_is) l.line_is)
+    pub fits_of : (part : Part) → line.part ≡ part → PartFits list.names list.keys l.key part
+    fits_of part e =
+        subst (PartFits list.names list.keys l.key) e (each_at (LineFits list.names list.keys l.key) l.key.lines l.place line (each_at (LinesFit list.names list.keys) list.keys at l.key fit.lines_fit l.key_is) l.line_is).part_fits
 
     module _ (s : Solved D) (entry : slice_get a at ≡ Some s) where
       pub part_at : (part : Part) → line.part ≡ part → AtLine list at (record { from = line.from; part = part }) a s

@@ -59,15 +59,15 @@ module _ (D : Type 0) (d : Domain D) where
   mapped P Q f step (Some x) h = step x h
 
   module _ (names : ℕ) (sorts : List (List FlowSort)) (positions : List (Outcome D)) (fit : PositionsFit names sorts positions) where
-    argument_there : (v : VarSort) (operand : Operand) → OperandFits sorts v operand → IfThere (λ g. arg_has_sort names v g ≡ true) (argument_at positions operand)
+    argument_there : (v : VarSort) (operand : Operand) → OperandFits names sorts v operand → IfThere (λ g. arg_has_sort names v g ≡ true) (argument_at positions operand)
     argument_there variable.Number (Operand.Number z) h = refl
     argument_there variable.Name (Operand.Name n) h = refl
     argument_there (variable.Flow s) (Operand.At p e) h = mapped (FlowFits names s) (λ g. arg_has_sort names (variable.Flow s) g ≡ true) AbsArg.Flow (λ a k. k.0) (flow_at positions p e) (flow_there names sorts positions p e s fit h)
     argument_there _ _ h = absurd h
 
-    arguments_there : (vs : List VarSort) (operands : List Operand) → OperandsFit sorts vs operands → IfThere (λ given. args_have_sorts names vs given ≡ true) (all_of (argument_at positions) operands)
+    arguments_there : (vs : List VarSort) (operands : List Operand) → OperandsFit names sorts vs operands → IfThere (λ given. args_have_sorts names vs given ≡ true) (all_of (argument_at positions) operands)
     arguments_there vs operands h =
-        tested (all_of (argument_at positions) operands) (all_there (λ v g. arg_has_sort names v g ≡ true) (argument_at positions) vs operands (zip_more (OperandFits sorts) (λ v o. IfThere (λ g. arg_has_sort names v g ≡ true) (argument_at positions o)) argument_there vs operands h))
+        tested (all_of (argument_at positions) operands) (all_there (λ v g. arg_has_sort names v g ≡ true) (argument_at positions) vs operands (zip_more (OperandFits names sorts) (λ v o. IfThere (λ g. arg_has_sort names v g ≡ true) (argument_at positions o)) argument_there vs operands h))
       where
         tested : (o : Option (List (AbsArg D))) → IfThere (AllZip (λ v g. arg_has_sort names v g ≡ true) vs) o → IfThere (λ given. args_have_sorts names vs given ≡ true) o
         tested None k = tt
@@ -81,7 +81,7 @@ module _ (D : Type 0) (d : Domain D) where
         and_from (has_sorts names (s ∷ ss) (y ∷ ys)) (is_proper d (y ∷ ys)) (and_from (flow_has_sort names s y) (has_sorts names ss ys) h.0 q.0) (and_from (flow_is_proper d y) (is_proper d ys) h.1 q.1)
 
     -- values of these sorts fit them
-    pub values_fit : (ss : List FlowSort) (operands : List Operand) → OperandsFit sorts (map VarSort.Flow ss) operands → outcome_fits d names ss (all_of (operand_value positions) operands) ≡ true
+    pub values_fit : (ss : List FlowSort) (operands : List Operand) → OperandsFit names sorts (map VarSort.Flow ss) operands → outcome_fits d names ss (all_of (operand_value positions) operands) ≡ true
     values_fit [] [] h = refl
     values_fit [] (o ∷ os) h = absurd h
     values_fit (s ∷ ss) [] h = absurd h
@@ -99,7 +99,7 @@ module _ (D : Type 0) (d : Domain D) where
     flows_sorted (variable.Term t ∷ vs) (x ∷ xs) h = absurd cc
     flows_sorted (variable.Flow s ∷ vs) (x ∷ xs) h = let q = and_parts (flow_has_sort names s x) (args_have_sorts names vs (map AbsArg.Flow xs)) h in and_from (flow_has_sort names s x) (has_sorts names (filter_map flow_sort vs) xs) q.0 (flows_sorted vs xs q.1)
 
-    pub result_fits : (filter : Filter) (operands : List Operand) → OperandsFit sorts (parameters filter) operands →
+    pub result_fits : (filter : Filter) (operands : List Operand) → OperandsFit names sorts (parameters filter) operands →
         outcome_fits d names (filter_map flow_sort (results filter)) (option_and_then (abstract_result d filter names) (all_of (argument_at positions) operands)) ≡ true
     result_fits filter operands h = by (all_of (argument_at positions) operands) (arguments_there (parameters filter) operands h)
       where

@@ -9,7 +9,7 @@ use Rattle.sk_absfilter.specs.Abstract.{Outcome}
 use Rattle.sk_absfilter.specs.Laws.{outcome_leq}
 use Rattle.sk_constr.specs.declared.line.Line.{Line}
 use Rattle.sk_constr.specs.declared.line.KeyLines.{KeyLines}
-use Rattle.sk_constr.specs.declared.constraints.Constraints.{Constraints}
+use Rattle.sk_constr.specs.declared.constraint_list.ConstraintList.{ConstraintList}
 use Rattle.sk_solve.specs.declared.assignment.Solved.{Solved}
 use Rattle.sk_solve.specs.Solves.{line_holds, outcome_fits, IsOfKey, KeyLies, IsAssignment, Solves, LiesBelow}
 use Rattle.sk_solve.specs.Climbing.{nothing_at, LineHolds, LinesHold, KeysHold, CoversHold, IsUnderway, IsStep}
@@ -45,7 +45,7 @@ one_more P xs n x e h p i y l k =
       | inr other ↦ h i y (omega arith) k
     ]
 
-module _ (D : Type 0) (d : Domain D) (list : Constraints D) where
+module _ (D : Type 0) (d : Domain D) (list : ConstraintList D) where
   -- one more step of a loop
   pub next_step : {A : Type 0} (P : A → List (Solved D) → Type 0) (xs : List A) (n : ℕ) (x : A) (a b e : List (Solved D)) (f g : Bool) → slice_get xs n ≡ Some x →
       IsStep d list (λ z. EachBelow n (λ y. P y z) xs) a b f → IsStep d list (P x) b e g → IsStep d list (λ z. EachBelow (n + 1) (λ y. P y z) xs) a e (f || g)

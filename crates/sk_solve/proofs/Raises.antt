@@ -17,7 +17,7 @@ use Rattle.sk_lattice.proofs.Tuples.{tuple_laws}
 use Rattle.sk_absfilter.specs.Abstract.{Outcome}
 use Rattle.sk_absfilter.specs.Laws.{outcome_leq}
 use Rattle.sk_constr.specs.declared.line.KeyLines.{KeyLines}
-use Rattle.sk_constr.specs.declared.constraints.Constraints.{Constraints}
+use Rattle.sk_constr.specs.declared.constraint_list.ConstraintList.{ConstraintList}
 use Rattle.sk_solve.specs.declared.assignment.Solved.{Solved}
 use Rattle.sk_solve.specs.declared.slot.Slot.{Slot}
 use Rattle.sk_solve.specs.Solves.{outcome_fits, IsOfKey, KeyLies, IsAssignment, Solves, LiesBelow}
@@ -88,13 +88,13 @@ module _ (D : Type 0) (d : Domain D) where
   slots_join names sorts (Some t) asked h k =
       (shape_laws D d).sorts_fit names sorts t asked (and_parts (has_sorts names sorts t) (is_proper d t) h).0 (and_parts (has_sorts names sorts asked) (is_proper d asked) k).0
 
-  pub due_joins : (list : Constraints D) (at : ℕ) (slot : Slot) (asked : List (AbsFlow D)) (a : List (Solved D)) (s : Solved D) → IsUnderway d list a → IsDue d list at slot (Some asked) → slice_get a at ≡ Some s → IfSome (slot_of slot s) (λ t. tuples_fit t asked ≡ true)
+  pub due_joins : (list : ConstraintList D) (at : ℕ) (slot : Slot) (asked : List (AbsFlow D)) (a : List (Solved D)) (s : Solved D) → IsUnderway d list a → IsDue d list at slot (Some asked) → slice_get a at ≡ Some s → IfSome (slot_of slot s) (λ t. tuples_fit t asked ≡ true)
   due_joins list at slot asked a s u due e =
       let of = both_at (IsOfKey d list.names) list.keys a at due.key s u.assigns due.key_is e in
       slots_join list.names due.sorts (slot_of slot s) asked (slot_fits list.names due.key s slot due.sorts of due.sorts_are) due.fits
 
   -- the key of what is due has an entry
-  pub due_entry : (list : Constraints D) (at : ℕ) (slot : Slot) (asked : Outcome D) (a : List (Solved D)) → IsUnderway d list a → IsDue d list at slot asked → at < length a
+  pub due_entry : (list : ConstraintList D) (at : ℕ) (slot : Slot) (asked : Outcome D) (a : List (Solved D)) → IsUnderway d list a → IsDue d list at slot asked → at < length a
   due_entry list at slot asked a u due =
       let b = beside (IsOfKey d list.names) list.keys a at due.key u.assigns due.key_is in
       slice_get_within a at b.other b.is
@@ -113,7 +113,7 @@ module _ (D : Type 0) (d : Domain D) (laws : DomainLaws d) (is_finite : FiniteLa
   joined_least (Some t) asked None h k = h
   joined_least (Some t) asked (Some u) h k = (tuple_laws D d laws).join_least t asked u h k
 
-  module _ (list : Constraints D) (at : ℕ) (slot : Slot) where
+  module _ (list : ConstraintList D) (at : ℕ) (slot : Slot) where
     -- the assignment in which a slot has the join of what it had and what is due
     lifted : (asked : List (AbsFlow D)) (a : List (Solved D)) (s : Solved D) → IsUnderway d list a → (due : IsDue d list at slot (Some asked)) → slice_get a at ≡ Some s → IsUnderway d list (slice_set a at (with_slot slot (Some (joined d (slot_of slot s) asked)) s))
     lifted asked a s u due e =

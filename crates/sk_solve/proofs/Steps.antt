@@ -1,11 +1,11 @@
 -- Steps one after another.
 use Rattle.std.proofs.Common.{◌≡◌, ◌<◌, Bool, true, false, ◌||◌, List, refl, sym, ◌∙◌, ap, subst, arith}
 use Rattle.sk_lattice.specs.Domain.{Domain}
-use Rattle.sk_constr.specs.declared.constraints.Constraints.{Constraints}
+use Rattle.sk_constr.specs.declared.constraint_list.ConstraintList.{ConstraintList}
 use Rattle.sk_solve.specs.declared.assignment.Solved.{Solved}
 use Rattle.sk_solve.specs.Climbing.{total_rank, IsUnderway, IsStep}
 
-module _ (D : Type 0) (d : Domain D) (list : Constraints D) where
+module _ (D : Type 0) (d : Domain D) (list : ConstraintList D) where
   -- nothing is to be changed
   pub still_step : (H : List (Solved D) → Type 0) (a : List (Solved D)) → IsUnderway d list a → H a → IsStep d list H a a false
   still_step H a u h = record { underway = u; falls = λ e. absurd (cc); still = λ e. (refl, h) }

@@ -13,7 +13,7 @@ use Rattle.sk_absfilter.specs.Laws.{outcome_leq}
 use Rattle.sk_table.specs.declared.triple.Cover.{Cover}
 use Rattle.sk_constr.specs.declared.line.Line.{Line}
 use Rattle.sk_constr.specs.declared.line.KeyLines.{KeyLines}
-use Rattle.sk_constr.specs.declared.constraints.Constraints.{Constraints}
+use Rattle.sk_constr.specs.declared.constraint_list.ConstraintList.{ConstraintList}
 use Rattle.sk_solve.specs.declared.assignment.Solved.{Solved}
 use Rattle.sk_solve.specs.declared.slot.Slot.{Slot}
 use Rattle.sk_solve.specs.Solves.{value_at, line_holds, cover_holds, outcome_fits, IsAssignment, Solves, LiesBelow}
@@ -64,16 +64,16 @@ zip_sum f _ _ = 0
 abbrev pub entry_rank : {D : Type 0} → Domain D → ℕ → KeyLines → Solved D → ℕ
 entry_rank d names key s = zip_sum (slot_rank d names) key.positions s.positions + slot_rank d names key.outputs s.outs
 
-abbrev pub total_rank : {D : Type 0} → Domain D → Constraints D → List (Solved D) → ℕ
+abbrev pub total_rank : {D : Type 0} → Domain D → ConstraintList D → List (Solved D) → ℕ
 total_rank d list a = zip_sum (entry_rank d list.names) list.keys a
 
 -- an assignment that lies below every one that satisfies the list
-pub record IsUnderway {D : Type 0} (d : Domain D) (list : Constraints D) (a : List (Solved D)) : Type 0 where
+pub record IsUnderway {D : Type 0} (d : Domain D) (list : ConstraintList D) (a : List (Solved D)) : Type 0 where
   pub assigns : IsAssignment d list a
   pub below : (b : List (Solved D)) → Solves d list b → LiesBelow d a b
 
 -- an outcome has the sorts of a key's slot, and lies below what the slot has in every assignment that satisfies the list
-pub record IsDue {D : Type 0} (d : Domain D) (list : Constraints D) (at : ℕ) (slot : Slot) (asked : Outcome D) : Type 0 where
+pub record IsDue {D : Type 0} (d : Domain D) (list : ConstraintList D) (at : ℕ) (slot : Slot) (asked : Outcome D) : Type 0 where
   pub key : KeyLines
   pub key_is : slice_get list.keys at ≡ Some key
   pub sorts : List FlowSort
@@ -82,7 +82,7 @@ pub record IsDue {D : Type 0} (d : Domain D) (list : Constraints D) (at : ℕ) (
   pub below : (b : List (Solved D)) → Solves d list b → (s : Solved D) → slice_get b at ≡ Some s → outcome_leq d asked (slot_of slot s) ≡ true
 
 -- A step tells whether it changed the assignment. Where it did, the rank fell; else what it is to bring about holds.
-pub record IsStep {D : Type 0} (d : Domain D) (list : Constraints D) (Holds : List (Solved D) → Type 0) (old new : List (Solved D)) (changed : Bool) : Type 0 where
+pub record IsStep {D : Type 0} (d : Domain D) (list : ConstraintList D) (Holds : List (Solved D) → Type 0) (old new : List (Solved D)) (changed : Bool) : Type 0 where
   pub underway : IsUnderway d list new
   pub falls : changed ≡ true → total_rank d list new < total_rank d list old
   pub still : changed ≡ false → (new ≡ old) × Holds new
@@ -97,7 +97,7 @@ LineHolds {D} d names at line a = (s : Solved D) → slice_get a at ≡ Some s �
 abbrev pub LinesHold : {D : Type 0} → Domain D → ℕ → ℕ → List Line → List (Solved D) → Type 0
 LinesHold d names at lines a = AllByRecursion (λ line. LineHolds d names at line a) lines
 
-abbrev pub KeysHold : {D : Type 0} → Domain D → Constraints D → ℕ → List (Solved D) → Type 0
+abbrev pub KeysHold : {D : Type 0} → Domain D → ConstraintList D → ℕ → List (Solved D) → Type 0
 KeysHold d list keys a = (at : ℕ) → at < keys → (key : KeyLines) → slice_get list.keys at ≡ Some key → LinesHold d list.names at key.lines a
 
 abbrev pub CoversHold : {D : Type 0} → Domain D → ℕ → List (Cover D) → List (Solved D) → Type 0
@@ -109,12 +109,12 @@ first_place passes [] = None
 first_place passes (x ∷ xs) = if passes x then Some 0 else option_map (λ n. suc n) (first_place passes xs)
 
 -- a line of a key of the list, and a cover line of it
-pub record IsLineOf {D : Type 0} (list : Constraints D) (at : ℕ) (line : Line) : Type 0 where
+pub record IsLineOf {D : Type 0} (list : ConstraintList D) (at : ℕ) (line : Line) : Type 0 where
   pub key : KeyLines
   pub key_is : slice_get list.keys at ≡ Some key
   pub place : ℕ
   pub line_is : slice_get key.lines place ≡ Some line
 
-pub record IsCoverOf {D : Type 0} (list : Constraints D) (cover : Cover D) : Type 0 where
+pub record IsCoverOf {D : Type 0} (list : ConstraintList D) (cover : Cover D) : Type 0 where
   pub place : ℕ
   pub cover_is : slice_get list.covers place ≡ Some cover

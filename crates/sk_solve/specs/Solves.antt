@@ -17,7 +17,7 @@ use Rattle.sk_constr.specs.declared.line.Operand.{Operand}
 use Rattle.sk_constr.specs.declared.line.Part.{Part}
 use Rattle.sk_constr.specs.declared.line.Line.{Line}
 use Rattle.sk_constr.specs.declared.line.KeyLines.{KeyLines}
-use Rattle.sk_constr.specs.declared.constraints.Constraints.{Constraints}
+use Rattle.sk_constr.specs.declared.constraint_list.ConstraintList.{ConstraintList}
 use Rattle.sk_solve.specs.declared.assignment.Solved.{Solved}
 
 -- what a position has
@@ -84,11 +84,11 @@ pub record IsOfKey {D : Type 0} (d : Domain D) (names : ℕ) (key : KeyLines) (s
   pub outs_fit : outcome_fits d names key.outputs s.outs ≡ true
 
 -- an assignment gives each key, in order, what is of it
-abbrev pub IsAssignment : {D : Type 0} → Domain D → Constraints D → List (Solved D) → Type 0
+abbrev pub IsAssignment : {D : Type 0} → Domain D → ConstraintList D → List (Solved D) → Type 0
 IsAssignment d list a = AllZip (IsOfKey d list.names) list.keys a
 
 -- an assignment satisfies a list where each cover line lies below position 0 of its key, and each line holds
-pub record Solves {D : Type 0} (d : Domain D) (list : Constraints D) (a : List (Solved D)) : Type 0 where
+pub record Solves {D : Type 0} (d : Domain D) (list : ConstraintList D) (a : List (Solved D)) : Type 0 where
   pub assigns : IsAssignment d list a
   pub covered : AllByRecursion (λ cover. cover_holds d list.names a cover ≡ true) list.covers
   pub lines_hold : AllZip (λ (key : KeyLines) s. list_all (line_holds d list.names a s) key.lines ≡ true) list.keys a
@@ -102,10 +102,10 @@ abbrev pub LiesBelow : {D : Type 0} → Domain D → List (Solved D) → List (S
 LiesBelow d a b = AllZip (KeyLies d) a b
 
 -- the least assignment that satisfies a list: it lies below every one that does
-pub record IsLeastSolution {D : Type 0} (d : Domain D) (list : Constraints D) (a : List (Solved D)) : Type 0 where
+pub record IsLeastSolution {D : Type 0} (d : Domain D) (list : ConstraintList D) (a : List (Solved D)) : Type 0 where
   pub solves : Solves d list a
   pub least : (b : List (Solved D)) → Solves d list b → LiesBelow d a b
 
 -- the law of least solutions: there is one at most
 abbrev pub LeastIsOne : {D : Type 0} → Domain D → Type 0
-LeastIsOne {D} d = (list : Constraints D) (a b : List (Solved D)) → IsLeastSolution d list a → IsLeastSolution d list b → a ≡ b
+LeastIsOne {D} d = (list : ConstraintList D) (a b : List (Solved D)) → IsLeastSolution d list a → IsLeastSolution d list b → a ≡ b

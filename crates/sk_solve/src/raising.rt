@@ -1,7 +1,6 @@
 //! The steps of the climb: what a line asks for is joined into where it asks for it.
 ghost use Rattle.std.specs.Prelude.{◌≡◌, true, not, IfOk, OnOk, IfSome};
 ghost use Rattle.sk_lattice.specs.Order.{tuples_fit};
-ghost use Rattle.sk_constr.specs.Fits.{ConstraintsFit};
 ghost use Rattle.sk_solve.specs.Solves.{cover_holds};
 ghost use Rattle.sk_solve.specs.Climbing.{slot_of, raised, stays, IsUnderway, IsDue, IsStep, LiesIn, LineHolds, IsLineOf, IsCoverOf};
 
@@ -67,12 +66,12 @@ pub(crate) fn raise_cover<D: NumDom>(
     found: &mut [Solved<D>],
 ) -> Result<bool, NoMemory>
     requires finite { D.FINITE ≡ true }
-    requires fit { ConstraintsFit list.now }
     requires underway { IsUnderway D.domain list.now found.old }
     requires there { IsCoverOf list.now cover.now }
     ensures { IfOk result (λ changed.
         IsStep D.domain list.now (λ a. cover_holds D.domain list.now.names a cover.now ≡ true) found.old found.new changed) }
 {
+    let _names = list.names();
     let at = place_of(found, cover.hook, cover.point).unwrap();
     let ins = copy_tuple(alloc, &cover.ins)?;
     raise(alloc, list, found, at, Slot::Position(0), Some(ins))
@@ -87,18 +86,18 @@ pub(crate) fn raise_line<D: NumDom>(
     found: &mut [Solved<D>],
 ) -> Result<bool, NoMemory>
     requires finite { D.FINITE ≡ true }
-    requires fit { ConstraintsFit list.now }
     requires underway { IsUnderway D.domain list.now found.old }
     requires there { IsLineOf list.now at line.now }
     ensures { IfOk result (λ changed. IsStep D.domain list.now (LineHolds D.domain list.now.names at line.now) found.old found.new changed) }
 {
+    let names = list.names();
     let positions = &found[at].positions;
     let Some(_before) = value_at(positions, line.from) else {
         return Ok(false);
     };
     match &line.part {
         Part::Filter { to, filter, args } => {
-            let outs = filter_result(alloc, *filter, list.names(), positions, args)?;
+            let outs = filter_result(alloc, *filter, names, positions, args)?;
             raise(alloc, list, found, at, Slot::Position(*to), outs)
         }
         Part::Call {

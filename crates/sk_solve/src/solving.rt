@@ -1,6 +1,5 @@
 //! The least solution of a list of constraints.
 ghost use Rattle.std.specs.Prelude.{◌≡◌, ◌<◌, length, slice_get, true, Some, IfOk, IsTrue};
-ghost use Rattle.sk_constr.specs.Fits.{ConstraintsFit};
 ghost use Rattle.sk_constr.specs.declared.line.KeyLines.{KeyLines};
 ghost use Rattle.sk_solve.specs.Solves.{Solves, IsLeastSolution};
 ghost use Rattle.sk_solve.specs.Climbing.{nothing_at, IsUnderway, IsStep, LinesHold, KeysHold, CoversHold};
@@ -46,7 +45,6 @@ fn raise_covers<D: NumDom>(
     found: &mut [Solved<D>],
 ) -> Result<bool, NoMemory>
     requires finite { D.FINITE ≡ true }
-    requires fit { ConstraintsFit list.now }
     requires underway { IsUnderway D.domain list.now found.old }
     ensures { IfOk result (λ changed. IsStep D.domain list.now (CoversHold D.domain list.now.names list.now.covers) found.old found.new changed) }
 {
@@ -66,7 +64,6 @@ fn raise_lines<D: NumDom>(
     found: &mut [Solved<D>],
 ) -> Result<bool, NoMemory>
     requires finite { D.FINITE ≡ true }
-    requires fit { ConstraintsFit list.now }
     requires underway { IsUnderway D.domain list.now found.old }
     requires there { at < length list.now.keys }
     ensures { IfOk result (λ changed. (key : KeyLines) → slice_get list.now.keys at ≡ Some key →
@@ -87,7 +84,6 @@ fn raise_keys<D: NumDom>(
     found: &mut [Solved<D>],
 ) -> Result<bool, NoMemory>
     requires finite { D.FINITE ≡ true }
-    requires fit { ConstraintsFit list.now }
     requires underway { IsUnderway D.domain list.now found.old }
     ensures { IfOk result (λ changed. IsStep D.domain list.now (KeysHold D.domain list.now (length list.now.keys)) found.old found.new changed) }
 {
@@ -106,7 +102,6 @@ fn pass<D: NumDom>(
     found: &mut [Solved<D>],
 ) -> Result<bool, NoMemory>
     requires finite { D.FINITE ≡ true }
-    requires fit { ConstraintsFit list.now }
     requires underway { IsUnderway D.domain list.now found.old }
     ensures { IfOk result (λ changed. IsStep D.domain list.now (Solves D.domain list.now) found.old found.new changed) }
 {
@@ -119,14 +114,13 @@ fn pass<D: NumDom>(
 /// over the whole list raise what the lines ask for, until a pass changes nothing. Fails only where memory is refused.
 pub fn solve<D: NumDom>(alloc: Global, list: &Constraints<D>) -> Result<Assignment<D>, NoMemory>
     requires finite { D.FINITE ≡ true }
-    requires fit { ConstraintsFit list.now }
     ensures { IfOk result (IsLeastSolution D.domain list.now) }
 {
     let mut found = start(alloc, list)?;
     'passes: loop {
         let changed = pass(alloc, list, found.as_mut_slice())?;
         if !changed {
-            return Ok(Seq::of(found));
+            return Ok(Assignment::of(found));
         }
     }
 }

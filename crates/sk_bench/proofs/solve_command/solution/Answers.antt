@@ -5,10 +5,9 @@ use Rattle.sk_bench.proofs.Analysed.{solution_in, solution_means}
 use Rattle.sk_bench.proofs.CoverCalls.{covers_fit, lines_fit}
 use Rattle.sk_bench.proofs.solve_command.solution.Goals as goal
 
-pub solve-requires-clause-fit : goal.solve-requires-clause-fit
-solve-requires-clause-fit c =
-    c.in_ok-list.ensures.fit c.requires.narrow
-    (lines_fit c.args.checked.now c.args.job.now.arena (length c.args.job.now.names) c.args.job.now.sign c.requires.program c.requires.over c.requires.calls.sign)
+pub generate-requires-clause-fit : goal.generate-requires-clause-fit
+generate-requires-clause-fit c =
+    lines_fit c.args.checked.now c.args.job.now.arena (length c.args.job.now.names) c.args.job.now.sign c.requires.program c.requires.over c.requires.calls.sign
 
 pub returns : goal.returns
 returns c =
@@ -20,7 +19,7 @@ returns c =
         (
           c.in_ok-table.table,
           solution_in c.args.checked.now job.arena (seen job) job.sign c.in_ok-list.list c.in_ok-assignment.assignment c.in_ok-table.table c.requires.program refl c.requires.over
-              c.in_ok-list.ensures.made c.in_ok-assignment.ensures c.in_ok-table.ensures,
+              c.in_ok-list.ensures c.in_ok-assignment.ensures c.in_ok-table.ensures,
           rw c.def-def.ensures.is at c.in_ok-text.ensures.text,
         ),
         solution_means c.args.checked.now job.arena (seen job) job.sign c.solutions_agree.ensures c.def-def.ensures.sorted.well_sorted c.requires.program refl c.requires.over fit,

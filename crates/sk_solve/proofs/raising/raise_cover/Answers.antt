@@ -13,7 +13,7 @@ pub unwrap-at-requires : goal.unwrap-at-requires
 unwrap-at-requires g c =
     let d = g.D.NumDom.domain in
     let list = c.args.list.now in
-    let fit = each_at (CoverLineFits list.names list.keys) list.covers c.requires.there.place c.args.cover.now c.requires.fit.covers_fit c.requires.there.cover_is in
+    let fit = each_at (CoverLineFits list.names list.keys) list.covers c.requires.there.place c.args.cover.now c.names-names.ensures.fit.covers_fit c.requires.there.cover_is in
     let place = cover_place _ d g.met.D.NumDom.laws list c.args.cover.now fit in
     let is : c.place_of.result ≡ Some place.at = c.place_of.ensures ∙ (place.found c.args.found.now c.requires.underway.assigns).0 in
     rw is refl
@@ -22,7 +22,7 @@ pub raise-requires-clause-due : goal.raise-requires-clause-due
 raise-requires-clause-due g c =
     let d = g.D.NumDom.domain in
     let list = c.args.list.now in
-    let fit = each_at (CoverLineFits list.names list.keys) list.covers c.requires.there.place c.args.cover.now c.requires.fit.covers_fit c.requires.there.cover_is in
+    let fit = each_at (CoverLineFits list.names list.keys) list.covers c.requires.there.place c.args.cover.now c.names-names.ensures.fit.covers_fit c.requires.there.cover_is in
     let place = cover_place _ d g.met.D.NumDom.laws list c.args.cover.now fit in
     let at : place.at ≡ c.unwrap-at.result = same_some (sym (c.place_of.ensures ∙ (place.found c.args.found.now c.requires.underway.assigns).0) ∙ c.unwrap-at.ensures) in
     subst (λ k. IsDue d list k (Slot.Position 0) (Some c.in_ok-ins.ins)) at
@@ -32,7 +32,7 @@ pub returns : goal.returns
 returns g c =
     let d = g.D.NumDom.domain in
     let list = c.args.list.now in
-    let fit = each_at (CoverLineFits list.names list.keys) list.covers c.requires.there.place c.args.cover.now c.requires.fit.covers_fit c.requires.there.cover_is in
+    let fit = each_at (CoverLineFits list.names list.keys) list.covers c.requires.there.place c.args.cover.now c.names-names.ensures.fit.covers_fit c.requires.there.cover_is in
     let place = cover_place _ d g.met.D.NumDom.laws list c.args.cover.now fit in
     let at : place.at ≡ c.unwrap-at.result = same_some (sym (c.place_of.ensures ∙ (place.found c.args.found.now c.requires.underway.assigns).0) ∙ c.unwrap-at.ensures) in
     IfOk-weaker c.raise.result _ _
