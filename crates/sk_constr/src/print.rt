@@ -79,6 +79,18 @@ fn operands_text(alloc: Global, names: &Names, operands: &[Operand]) -> Result<V
     Ok(text)
 }
 
+/// Appends the texts of operands in parentheses.
+fn put_operands(
+    alloc: Global,
+    names: &Names,
+    operands: &[Operand],
+    out: &mut Vec<u8>,
+) -> Result<(), NoMemory>
+    ensures { OnOk result (out.new.items ≡ out.old.items ++ operands_text names.now operands.now) }
+{
+    put_bytes(out, operands_text(alloc, names, operands)?.as_slice())
+}
+
 /// What a line asks for.
 fn part_text(alloc: Global, def: &Def, names: &Names, part: &Part) -> Result<Vec<u8>, NoMemory>
     ensures { IfOk result (λ text. text.items ≡ part_text def.now names.now part.now) }
@@ -90,10 +102,7 @@ fn part_text(alloc: Global, def: &Def, names: &Names, part: &Part) -> Result<Vec
             put_bytes(&mut text, b" filter ")?;
             put_bytes(&mut text, filter_word(*filter))?;
             put_bytes(&mut text, b" ")?;
-            put_bytes(
-                &mut text,
-                operands_text(alloc, names, args.as_slice())?.as_slice(),
-            )?;
+            put_operands(alloc, names, args.as_slice(), &mut text)?;
         }
         Part::Call {
             to,
@@ -105,25 +114,16 @@ fn part_text(alloc: Global, def: &Def, names: &Names, part: &Part) -> Result<Vec
             put_bytes(&mut text, b" call ")?;
             put_bytes(&mut text, key_name(alloc, def, *hook, *point)?.as_slice())?;
             put_bytes(&mut text, b" ")?;
-            put_bytes(
-                &mut text,
-                operands_text(alloc, names, args.as_slice())?.as_slice(),
-            )?;
+            put_operands(alloc, names, args.as_slice(), &mut text)?;
         }
         Part::Join { to, vars } => {
             put_count(&mut text, u16::from(*to))?;
             put_bytes(&mut text, b" join ")?;
-            put_bytes(
-                &mut text,
-                operands_text(alloc, names, vars.as_slice())?.as_slice(),
-            )?;
+            put_operands(alloc, names, vars.as_slice(), &mut text)?;
         }
         Part::End { vars } => {
             put_bytes(&mut text, b"out ")?;
-            put_bytes(
-                &mut text,
-                operands_text(alloc, names, vars.as_slice())?.as_slice(),
-            )?;
+            put_operands(alloc, names, vars.as_slice(), &mut text)?;
         }
     }
     Ok(text)
