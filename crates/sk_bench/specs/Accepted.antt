@@ -1,4 +1,4 @@
--- The texts that are accepted: definitions that are read and are well sorted, and jobs that are read.
+-- The texts that are accepted: definitions that are read and are well sorted, and jobs and tables that are read.
 use Rattle.std.specs.List.{filter_map}
 use Rattle.std.specs.Prelude.{◌≡◌, IsSome, ℕ, List, length, codes, Option, Some, None, Result, Ok, Err, slice_get, unwrap_or}
 use Rattle.sk_base.specs.Answer.{◌>>=◌}

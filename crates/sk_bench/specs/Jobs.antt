@@ -109,7 +109,7 @@ unfoldable pub point_of : Def → List TermNode → HookId → Option ℤ → Re
 point_of d nodes hook None = Err Unexpected
 point_of d nodes hook (Some number) = numbered_point d nodes hook number
 
--- a job knows all the names that stand in it, so `UnknownName` never comes
+-- the error of a tuple as one of the job; a job knows all the names that stand in it, so `UnknownName` never comes
 abbrev pub tuple_error : TupleError → JobError
 tuple_error tuple.Unexpected = Unexpected
 tuple_error tuple.WrongCount = WrongCount
@@ -141,7 +141,7 @@ read_call d nodes names at symbols = at_front at (hook_of d) symbols >>= λ hook
 
 -- Cover lines.
 
--- of an abstract tuple no other errors come
+-- the error of an abstract tuple as one of the job; no other errors come of one
 abbrev pub abstract_error : TableError → JobError
 abstract_error table.WrongCount = WrongCount
 abstract_error table.TooManyNames = TooManyNames
