@@ -4,6 +4,7 @@ use Rattle.std.specs.List.{AllByRecursion}
 use Rattle.sk_def.specs.declared.def.Def.{Def}
 use Rattle.sk_sort.specs.Definition.{IsWellSorted}
 use Rattle.sk_term.specs.Program.{Program, IsProgramOf}
+use Rattle.sk_deriv.specs.Moves.{setting_of}
 use Rattle.sk_lattice.specs.Domain.{Domain}
 use Rattle.sk_lattice.specs.Laws.{TupleLaws}
 use Rattle.sk_absfilter.specs.Abstract.{Outcome}
@@ -14,7 +15,7 @@ use Rattle.sk_rounds.specs.Accepted as rounds
 use Rattle.sk_rounds.proofs.Lists.{all_more}
 use Rattle.sk_abswalk.specs.Walk.{Flows, Ends, uncovered, ill, with, Walk, Answers, abstract_walk}
 use Rattle.sk_abswalk.specs.Order.{WalksAgree, WalksAreProper}
-use Rattle.sk_abswalk.specs.Fits.{setting_of, WalksFit}
+use Rattle.sk_abswalk.specs.Fits.{WalksFit}
 use Rattle.sk_abswalk.specs.Reading.{Key, call_with, key_of, keyed, by_key, outcome_of, walk_of_key, walks_of, asked_end, asks_of}
 use Rattle.sk_abswalk.proofs.Settled.{Settles, walk_settled}
 use Rattle.sk_abswalk.proofs.WalkLaws.{GetsTo, gets_to}

@@ -10,7 +10,7 @@ use Rattle.sk_def.specs.declared.ids.HookId.{HookId}
 use Rattle.sk_def.specs.declared.def.Def.{Def}
 use Rattle.sk_sort.specs.Definition.{IsWellSorted}
 use Rattle.sk_term.specs.Program.{Program, IsProgramOf}
-use Rattle.sk_deriv.specs.Moves.{Setting}
+use Rattle.sk_deriv.specs.Moves.{Setting, setting_of}
 use Rattle.sk_lattice.specs.Domain.{Domain}
 use Rattle.sk_lattice.specs.Shapes.{ShapeLaws}
 use Rattle.sk_absfilter.specs.Abstract.{Outcome}
@@ -21,7 +21,7 @@ use Rattle.sk_abswalk.specs.declared.stop.Stop.TheVariants.{Uncovered, Ill}
 use Rattle.sk_abswalk.specs.Collect.{Tells}
 use Rattle.sk_abswalk.specs.Walk.{Flows, uncovered, ill, Walk, abstract_walk}
 use Rattle.sk_abswalk.specs.Keys.{Key, same_key, key_of, key_of_triple, by_key, own_outputs}
-use Rattle.sk_abswalk.specs.Fits.{setting_of, CallFits, OutcomeFits, AnswersFit, TripleFits, TableFits, EndsFit}
+use Rattle.sk_abswalk.specs.Fits.{CallFits, OutcomeFits, AnswersFit, TripleFits, TableFits, EndsFit}
 use Rattle.sk_abswalk.proofs.Settled.{Settles, walk_settled}
 use Rattle.sk_abswalk.proofs.RulesFit.{walks_fit}
 

@@ -23,7 +23,7 @@ use Rattle.sk_term.specs.Terms.{sort_of_node, arguments_of}
 use Rattle.sk_term.specs.Program.{Program, IsProgramOf, IsSortOfPoint, ChildrenFit, children_of_point}
 use Rattle.sk_term.proofs.Entries.{entries_fit}
 use Rattle.sk_deriv.specs.Env.{values_at, start_of}
-use Rattle.sk_deriv.specs.Moves.{Setting}
+use Rattle.sk_deriv.specs.Moves.{Setting, setting_of}
 use Rattle.sk_lattice.specs.Domain.{Domain}
 use Rattle.sk_lattice.specs.Order.{tuples_fit}
 use Rattle.sk_lattice.specs.Merge.{tuple_meet}
@@ -37,7 +37,7 @@ use Rattle.sk_abswalk.specs.declared.stop.Stop.{Stop}
 use Rattle.sk_abswalk.specs.declared.stop.Stop.TheVariants.{Ill}
 use Rattle.sk_abswalk.specs.FromTable.{Gives}
 use Rattle.sk_abswalk.specs.Tables.{is_above, outcome_meet, meet_from, table_answer}
-use Rattle.sk_abswalk.specs.Fits.{setting_of, CallFits, OutcomeFits, AnswersFit, TripleFits, EndsFit, WalkFits, WalksFit, AnswersOfTablesFit, TableFits}
+use Rattle.sk_abswalk.specs.Fits.{CallFits, OutcomeFits, AnswersFit, TripleFits, EndsFit, WalkFits, WalksFit, AnswersOfTablesFit, TableFits}
 use Rattle.sk_abswalk.proofs.Relations.{Has}
 use Rattle.sk_abswalk.proofs.Sound.{rule_there}
 use Rattle.sk_abswalk.proofs.FilterSorts.{FlowsFit}

@@ -9,6 +9,7 @@ use Rattle.sk_walk.specs.Walks.{Walks}
 use Rattle.sk_term.specs.declared.node.TermNode.{TermNode}
 use Rattle.sk_term.specs.Program.{Program}
 use Rattle.sk_deriv.specs.Env.{values_at, start_of}
+use Rattle.sk_deriv.specs.Moves.{setting_of}
 use Rattle.sk_lattice.specs.Domain.{Domain}
 use Rattle.sk_table.specs.declared.triple.Cover.{Cover}
 use Rattle.sk_abswalk.specs.declared.from_table.FromTable.{FromTable}
@@ -17,7 +18,6 @@ use Rattle.sk_abswalk.specs.declared.stop.Stop.{Stop}
 use Rattle.sk_abswalk.specs.declared.stop.Stop.TheVariants.{Uncovered, Ill, NoMemory}
 use Rattle.sk_abswalk.specs.Walk.{AbsEnv, Flows, ill, with, Walk, quiet, in_world, after_world, there, walk_of, abstract_outputs}
 use Rattle.sk_abswalk.specs.Tables.{table_answer}
-use Rattle.sk_abswalk.specs.Fits.{setting_of}
 use Rattle.sk_abswalk.specs.Meaning.{bones_walk}
 use Rattle.sk_abswalk.specs.FromTable.{Gives, stop_of}
 use Rattle.sk_abswalk.specs.Branches.{env_of}

@@ -12,7 +12,7 @@ use Rattle.sk_def.specs.declared.def.Hook.{Hook}
 use Rattle.sk_def.specs.Fits.{HookFits}
 use Rattle.sk_sort.specs.Definition.{IsWellSorted}
 use Rattle.sk_term.specs.Program.{Program, IsProgramOf}
-use Rattle.sk_deriv.specs.Moves.{Setting}
+use Rattle.sk_deriv.specs.Moves.{Setting, setting_of}
 use Rattle.sk_lattice.specs.Domain.{Domain}
 use Rattle.sk_lattice.specs.Empty.{is_proper}
 use Rattle.sk_lattice.specs.Laws.{TupleLaws}
@@ -25,7 +25,7 @@ use Rattle.sk_rounds.specs.Tuples.{ReadingLaws}
 use Rattle.sk_rounds.proofs.Lists.{all_both}
 use Rattle.sk_abswalk.specs.Walk.{Flows, Ends, uncovered, ill, with, Walk}
 use Rattle.sk_abswalk.specs.Order.{IsBelowOne, AnswersLeq, EndsLeq, GotThere, WalkLeq, WalksAreMonotone, IsProperOutcome, IsProperWalk, WalksAreProper}
-use Rattle.sk_abswalk.specs.Fits.{setting_of, CallFits, EndsFit, WalkFits, WalksFit}
+use Rattle.sk_abswalk.specs.Fits.{CallFits, EndsFit, WalkFits, WalksFit}
 use Rattle.sk_abswalk.specs.Reading.{Key, call_with, key_of, keyed, hook_of_key, sorts_of_side, by_key, outcome_of, walk_of_key, reading_of, walks_of, CoversFit}
 use Rattle.sk_abswalk.proofs.Settled.{Settles, walk_settled}
 use Rattle.sk_abswalk.proofs.Keys.{same_key_refl, same_key_only, key_is}

@@ -6,7 +6,7 @@ use Rattle.sk_def.specs.declared.def.Def.{Def}
 use Rattle.sk_def.specs.Sorts.{outputs_of}
 use Rattle.sk_sort.specs.Definition.{IsWellSorted}
 use Rattle.sk_term.specs.Program.{Program, IsProgramOf, IsSortOfPoint}
-use Rattle.sk_deriv.specs.Moves.{Setting}
+use Rattle.sk_deriv.specs.Moves.{Setting, setting_of}
 use Rattle.sk_lattice.specs.Domain.{Domain}
 use Rattle.sk_lattice.specs.Shapes.{has_sorts}
 use Rattle.sk_absfilter.specs.Abstract.{Outcome}
@@ -14,10 +14,6 @@ use Rattle.sk_table.specs.declared.triple.Triple.{Triple}
 use Rattle.sk_table.specs.declared.triple.Cover.{Cover}
 use Rattle.sk_abswalk.specs.Walk.{Flows, Ends, uncovered, ill, with, Walk, Answers, abstract_walk}
 use Rattle.sk_abswalk.specs.Tables.{call_of, table_answer}
-
--- what a definition and a program are to walks
-abbrev pub setting_of : Def → Program → Setting
-setting_of def program = record { def = def; nodes = program.nodes; names = program.names }
 
 -- a call's hook is declared, its point has the hook's sort, and its inputs have the sorts of the hook's
 pub record CallFits {D : Type 0} (s : Setting) (c : Cover D) : Type 0 where

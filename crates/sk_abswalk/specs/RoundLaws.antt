@@ -3,6 +3,7 @@ use Rattle.std.specs.Prelude.{◌≡◌, ◌≤◌, ℕ, Bool, true, ℤ, List}
 use Rattle.sk_def.specs.declared.def.Def.{Def}
 use Rattle.sk_sort.specs.Definition.{IsWellSorted}
 use Rattle.sk_term.specs.Program.{Program, IsProgramOf}
+use Rattle.sk_deriv.specs.Moves.{setting_of}
 use Rattle.sk_lattice.specs.Domain.{Domain}
 use Rattle.sk_lattice.specs.Thresholds.{IsThresholds}
 use Rattle.sk_table.specs.declared.triple.Cover.{Cover}
@@ -12,7 +13,6 @@ use Rattle.sk_rounds.specs.Rounds.{IsAnalysed, round_bound}
 use Rattle.sk_rounds.specs.Accepted.{AskLaws}
 use Rattle.sk_abswalk.specs.Walk.{Flows}
 use Rattle.sk_abswalk.specs.Tables.{IsAccepted}
-use Rattle.sk_abswalk.specs.Fits.{setting_of}
 use Rattle.sk_abswalk.specs.Reading.{Key, CoversFit, walks_of, asks_of, triples_of}
 use Rattle.sk_abswalk.specs.LeastTable.{IsLeastTable, HasOnePerKey, TriplesFit}
 

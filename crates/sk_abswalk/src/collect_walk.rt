@@ -1,9 +1,10 @@
 //! Walks through a rule that gather its calls.
 ghost use Rattle.std.specs.Prelude.{◌≡◌, ◌<◌, ◌+◌, [], length, IfOk};
 ghost use Rattle.sk_term.specs.Program.{IsProgramOf};
+ghost use Rattle.sk_deriv.specs.Moves.{setting_of};
 ghost use Rattle.sk_abswalk.specs.Walk.{with, abstract_walk};
 ghost use Rattle.sk_abswalk.specs.Keys.{by_key, own_outputs};
-ghost use Rattle.sk_abswalk.specs.Fits.{setting_of, CallFits, AnswersFit, TableFits};
+ghost use Rattle.sk_abswalk.specs.Fits.{CallFits, AnswersFit, TableFits};
 ghost use Rattle.sk_abswalk.specs.Collect.{Gathers, Tells};
 ghost use Rattle.sk_abswalk.specs.RuleAt.{RuleFor};
 

@@ -4,9 +4,10 @@ ghost use Rattle.sk_def.specs.Layout.{AreBelow};
 ghost use Rattle.sk_deriv.specs.Env.{bind_children, values_at};
 ghost use Rattle.sk_sort.specs.Rules.{header_sorts};
 ghost use Rattle.sk_term.specs.Program.{IsProgramOf, children_of_point};
+ghost use Rattle.sk_deriv.specs.Moves.{setting_of};
 ghost use Rattle.sk_abswalk.specs.Tables.{table_answer};
 ghost use Rattle.sk_abswalk.specs.Walk.{abstract_outputs, quiet, in_world, there};
-ghost use Rattle.sk_abswalk.specs.Fits.{setting_of, CallFits, TableFits};
+ghost use Rattle.sk_abswalk.specs.Fits.{CallFits, TableFits};
 ghost use Rattle.sk_abswalk.specs.FromTable.{Gives, GivesFrom};
 ghost use Rattle.sk_abswalk.specs.RuleAt.{RuleFor, start_at};
 

@@ -17,7 +17,7 @@ use Rattle.sk_sort.specs.Definition.{IsWellSorted}
 use Rattle.sk_term.specs.declared.node.TermNode.{TermNode}
 use Rattle.sk_term.specs.Program.{Program, IsProgramOf}
 use Rattle.sk_term.specs.Terms.{keys}
-use Rattle.sk_deriv.specs.Moves.{Setting}
+use Rattle.sk_deriv.specs.Moves.{Setting, setting_of}
 use Rattle.sk_lattice.specs.Domain.{Domain}
 use Rattle.sk_lattice.specs.Empty.{is_proper}
 use Rattle.sk_lattice.specs.Laws.{TupleLaws}
@@ -30,7 +30,6 @@ use Rattle.sk_rounds.specs.Rounds.{told_at, own_answer, IsAccepted}
 use Rattle.sk_rounds.specs.Tuples.{tuple_fits}
 use Rattle.sk_rounds.proofs.Ending.{analysed_least}
 use Rattle.sk_abswalk.specs.Walk.{Flows, Ends, uncovered, ill, with, quiet, rule_at, walk_of}
-use Rattle.sk_abswalk.specs.Fits.{setting_of}
 use Rattle.sk_abswalk.specs.Reading.{Key, keyed, hook_of_key, sorts_of_side, by_key, outcome_of, walk_of_key, walks_of}
 use Rattle.sk_abswalk.proofs.Keys.{hook_there}
 use Rattle.sk_abswalk.proofs.WalkLaws.{leq_side}

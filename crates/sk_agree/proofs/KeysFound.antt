@@ -17,10 +17,10 @@ use Rattle.sk_term.specs.declared.node.TermNode.{TermNode}
 use Rattle.sk_term.specs.Program.{Program, IsProgramOf}
 use Rattle.sk_term.specs.Terms.{keys, takes_node}
 use Rattle.sk_term.proofs.Entries.{as_many_entries}
+use Rattle.sk_deriv.specs.Moves.{setting_of}
 use Rattle.sk_lattice.specs.Domain.{Domain}
 use Rattle.sk_table.specs.declared.triple.Cover.{Cover}
 use Rattle.sk_rounds.proofs.Lists.{all_append}
-use Rattle.sk_abswalk.specs.Fits.{setting_of}
 use Rattle.sk_abswalk.specs.Reading.{Key}
 use Rattle.sk_abswalk.proofs.Keys.{IsKey}
 use Rattle.sk_constr.specs.declared.line.KeyLines.{KeyLines}

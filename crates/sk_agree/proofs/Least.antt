@@ -9,7 +9,7 @@ use Rattle.sk_def.specs.declared.def.Def.{Def}
 use Rattle.sk_sort.specs.Definition.{IsWellSorted}
 use Rattle.sk_term.specs.Program.{Program, IsProgramOf}
 use Rattle.sk_term.specs.Terms.{keys}
-use Rattle.sk_deriv.specs.Moves.{Setting}
+use Rattle.sk_deriv.specs.Moves.{Setting, setting_of}
 use Rattle.sk_lattice.specs.Domain.{Domain}
 use Rattle.sk_lattice.specs.Laws.{TupleLaws}
 use Rattle.sk_lattice.specs.Shapes.{ShapeLaws}
@@ -26,7 +26,7 @@ use Rattle.sk_rounds.proofs.Lists.{list_any_entries}
 use Rattle.sk_rounds.proofs.Ending.{least_laws}
 use Rattle.sk_abswalk.specs.Walk.{Flows}
 use Rattle.sk_abswalk.specs.Order.{WalksAreProper}
-use Rattle.sk_abswalk.specs.Fits.{setting_of, WalksFit}
+use Rattle.sk_abswalk.specs.Fits.{WalksFit}
 use Rattle.sk_abswalk.specs.Reading as reading
 use Rattle.sk_abswalk.specs.Reading.{Key, same_key, walks_of, triples_of}
 use Rattle.sk_abswalk.specs.LeastTable.{key_of_triple, HasOnePerKey}

@@ -14,7 +14,7 @@ use Rattle.sk_term.specs.declared.node.TermNode.{TermNode}
 use Rattle.sk_term.specs.Program.{Program, IsProgramOf}
 use Rattle.sk_term.specs.Terms.{keys}
 use Rattle.sk_deriv.specs.Env.{start_of}
-use Rattle.sk_deriv.specs.Moves.{Setting}
+use Rattle.sk_deriv.specs.Moves.{Setting, setting_of}
 use Rattle.sk_lattice.specs.Domain.{Domain}
 use Rattle.sk_lattice.specs.Order.{flow_leq}
 use Rattle.sk_lattice.specs.Laws.{TupleLaws}
@@ -28,7 +28,7 @@ use Rattle.sk_rounds.specs.Rounds.{own_answer, table_after, IsAnalysed, IsAccept
 use Rattle.sk_rounds.proofs.Ending.{ends, analysed_fits, analysed_accepted}
 use Rattle.sk_abswalk.specs.Walk.{Flows, Answers}
 use Rattle.sk_abswalk.specs.Order.{WalksAreProper}
-use Rattle.sk_abswalk.specs.Fits.{setting_of, WalksFit}
+use Rattle.sk_abswalk.specs.Fits.{WalksFit}
 use Rattle.sk_abswalk.specs.Reading.{Key, key_of, by_key, walks_of}
 use Rattle.sk_abswalk.proofs.OnePerKey.{one_per_key}
 use Rattle.sk_abswalk.proofs.WalkLaws.{leq_outcome}

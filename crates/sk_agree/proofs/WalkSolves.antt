@@ -18,7 +18,7 @@ use Rattle.sk_term.specs.Program.{Program, IsProgramOf, ChildrenFit, children_of
 use Rattle.sk_term.specs.Terms.{keys}
 use Rattle.sk_term.proofs.Entries.{entries_fit}
 use Rattle.sk_deriv.specs.Env.{values_at, start_of}
-use Rattle.sk_deriv.specs.Moves.{Setting}
+use Rattle.sk_deriv.specs.Moves.{Setting, setting_of}
 use Rattle.sk_lattice.specs.Domain.{Domain}
 use Rattle.sk_lattice.specs.Laws.{TupleLaws}
 use Rattle.sk_lattice.specs.Shapes.{ShapeLaws}
@@ -31,7 +31,7 @@ use Rattle.sk_rounds.specs.Rounds.{told_at, own_answer, IsAccepted}
 use Rattle.sk_rounds.specs.Tuples.{tuple_fits}
 use Rattle.sk_abswalk.specs.Walk.{AbsEnv, Flows, Ends, uncovered, ill, with, Walk, quiet, in_world, there, Answers, abstract_world, rule_at, walk_of}
 use Rattle.sk_abswalk.specs.Order.{GotThere, WalksAreProper}
-use Rattle.sk_abswalk.specs.Fits.{setting_of, WalksFit}
+use Rattle.sk_abswalk.specs.Fits.{WalksFit}
 use Rattle.sk_abswalk.specs.Reading.{Key, same_key, key_of, keyed, hook_of_key, sorts_of_side, by_key, outcome_of, walk_of_key, walks_of}
 use Rattle.sk_abswalk.proofs.Keys.{key_is, key_there, hook_there, same_key_refl, same_key_only}
 use Rattle.sk_abswalk.proofs.KeySides.{side_fits}

@@ -3,6 +3,7 @@ use Rattle.std.specs.Prelude.{◌≡◌, ℕ, ℤ, Bool, true, List}
 use Rattle.sk_def.specs.declared.def.Def.{Def}
 use Rattle.sk_sort.specs.Definition.{IsWellSorted}
 use Rattle.sk_term.specs.Program.{Program, IsProgramOf}
+use Rattle.sk_deriv.specs.Moves.{setting_of}
 use Rattle.sk_lattice.specs.Domain.{Domain}
 use Rattle.sk_lattice.specs.Thresholds.{IsThresholds}
 use Rattle.sk_table.specs.declared.triple.Cover.{Cover}
@@ -10,7 +11,6 @@ use Rattle.sk_rounds.specs.Walks.{Inputs, Outputs, Table, Walks, FitTable, Lies}
 use Rattle.sk_rounds.specs.Rounds.{IsAnalysed, IsAccepted}
 use Rattle.sk_rounds.specs.Laws.{IsLeastAccepted}
 use Rattle.sk_abswalk.specs.Walk.{Flows}
-use Rattle.sk_abswalk.specs.Fits.{setting_of}
 use Rattle.sk_abswalk.specs.Reading.{Key, CoversFit, walks_of, triples_of}
 use Rattle.sk_constr.specs.declared.constraint_list.ConstraintList.{ConstraintList}
 use Rattle.sk_constr.specs.Keys.{AreConstraints}

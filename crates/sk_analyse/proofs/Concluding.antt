@@ -3,6 +3,7 @@ use Rattle.std.proofs.Common.{◌≡◌, ℕ, ℤ, ◌≤◌, Bool, true, List, 
 use Rattle.sk_def.specs.declared.def.Def.{Def}
 use Rattle.sk_term.specs.Program.{Program}
 use Rattle.sk_term.specs.Terms.{keys}
+use Rattle.sk_deriv.specs.Moves.{setting_of}
 use Rattle.sk_lattice.specs.Domain.{Domain}
 use Rattle.sk_table.specs.declared.triple.Triple.{Triple}
 use Rattle.sk_table.specs.declared.triple.Cover.{Cover}
@@ -11,7 +12,6 @@ use Rattle.sk_rounds.specs.Rounds.{round_bound}
 use Rattle.sk_rounds.specs.Accepted.{row_at}
 use Rattle.sk_abswalk.specs.Walk.{Flows}
 use Rattle.sk_abswalk.specs.Tables.{IsAccepted}
-use Rattle.sk_abswalk.specs.Fits.{setting_of}
 use Rattle.sk_abswalk.specs.RoundLaws.{AnalysedTables}
 use Rattle.sk_abswalk.specs.Reading.{Key, triple_of, triples_of, walks_of}
 use Rattle.sk_abswalk.specs.LeastTable.{HasOnePerKey, TriplesFit, IsLeastTable}

@@ -1,68 +1,37 @@
 -- The list of all keys: turns of the loops over points and hooks, and where keys lie.
-use Rattle.std.proofs.Common.{◌≡◌, ℕ, zero, suc, ◌+◌, ◌<◌, ◌≤◌, true, false, eqb, List, [], ◌∷◌, ◌++◌, length, drop, get_or, map, Option, Some, refl, ap, sym, ◌∙◌, add-one, drop-cons, append_assoc, subst, arith}
-use Rattle.std.specs.List.{AllByRecursion, slice_get, filter, flat_map, enumerate_from}
-use Rattle.std.specs.Option.{option_map, option_map_or}
+use Rattle.std.proofs.Common.{◌≡◌, ℕ, zero, suc, ◌+◌, ◌<◌, ◌≤◌, true, false, List, [], ◌∷◌, ◌++◌, length, drop, get_or, map, Some, refl, ap, sym, ◌∙◌, append_assoc, subst, arith}
+use Rattle.std.specs.List.{AllByRecursion, slice_get, filter, enumerate_from}
 use Rattle.std.proofs.lemmas.Bool.{cond_both}
 use Rattle.std.proofs.lemmas.List.Elements.{All-from_recursion}
-use Rattle.std.proofs.lemmas.Option.{get_or_from_slice_get, same_Some}
-use Rattle.sk_def.specs.declared.ids.SortId.{SortId}
 use Rattle.sk_def.specs.declared.def.Def.{Def}
 use Rattle.sk_def.specs.declared.def.Hook.{Hook}
 use Rattle.sk_term.specs.declared.node.TermNode.{TermNode}
-use Rattle.sk_term.specs.Program.{IsSortOfPoint}
-use Rattle.sk_term.specs.Terms.{keys, takes_node, sort_of_node}
+use Rattle.sk_term.specs.Terms.{keys, keys_at, takes_node}
+use Rattle.sk_term.proofs.Keys.{later, taken, passed, keys_from, node_first}
 use Rattle.sk_rounds.proofs.Lists.{all_append}
 use Rattle.sk_abswalk.specs.Reading.{Key}
-use Rattle.sk_analyse.specs.Keys.{keys_at}
 
 pub there : {A : Type 0} (xs : List A) (k : ℕ) → k < length xs → (x : A) × (slice_get xs k ≡ Some x)
 there [] k h = absurd (omega (arith, h))
 there (x ∷ xs) zero h = (x, refl)
 there (x ∷ xs) (suc k) h = there xs k (omega (arith, h))
 
--- whether a hook takes a node whose sort is known
-node_takes : (h : Hook) (o : Option SortId) (s : SortId) → o ≡ Some s → option_map_or (λ (found : SortId). eqb found.0 h.sort.0) o false ≡ eqb s.0 h.sort.0
-node_takes h o s e = rw e refl
-
-pub takes_is : (d : Def) (nodes : List TermNode) (point : ℕ) (s : SortId) → IsSortOfPoint d nodes point s → (node : TermNode) (h : Hook) → slice_get nodes point ≡ Some node → takes_node d node h ≡ eqb s.0 h.sort.0
-takes_is d nodes point s is node h at =
-    let e : sort_of_node d node ≡ Some s = same_Some (sort_of_node d node) (Some s) (ap (option_map (sort_of_node d)) (sym at) ∙ is) in
-    node_takes h (sort_of_node d node) s e
-
 module _ (d : Def) (node : TermNode) (point : ℕ) (hooks : List Hook) (place : ℕ) (h : Hook) (l : place < length hooks) (is : h ≡ get_or hooks place h) where
-  at_turn : keys_at d node point place (drop place hooks) ≡ keys_at d node point place (h ∷ drop (place + 1) hooks)
-  at_turn =
-      ap (keys_at d node point place) (drop-cons hooks place h l)
-      ∙ ap (λ x. keys_at d node point place (x ∷ drop (suc place) hooks)) (sym is)
-      ∙ ap (λ k. keys_at d node point place (h ∷ drop k hooks)) (sym (add-one place))
+  pub push_turn : takes_node d node h ≡ true → (list : List Key) →
+      (list ++ (record { 0 = place }, point) ∷ []) ++ later d node point hooks place h l is ≡ list ++ keys_at d node point place (drop place hooks)
+  push_turn e list =
+      append_assoc list ((record { 0 = place }, point) ∷ []) (later d node point hooks place h l is)
+      ∙ ap (λ ks. list ++ ks) (sym (taken d node point hooks place h l is e))
 
-  abbrev pub later : List Key
-  later = keys_at d node point (place + 1) (drop (place + 1) hooks)
-
-  taken : takes_node d node h ≡ true → keys_at d node point place (h ∷ drop (place + 1) hooks) ≡ (record { 0 = place }, point) ∷ later
-  taken e = rw e refl
-
-  passed : takes_node d node h ≡ false → keys_at d node point place (h ∷ drop (place + 1) hooks) ≡ later
-  passed e = rw e refl
-
-  pub push_turn : takes_node d node h ≡ true → (list : List Key) → (list ++ (record { 0 = place }, point) ∷ []) ++ later ≡ list ++ keys_at d node point place (drop place hooks)
-  push_turn e list = append_assoc list ((record { 0 = place }, point) ∷ []) later ∙ ap (λ ks. list ++ ks) (sym (at_turn ∙ taken e))
-
-  pub pass_turn : takes_node d node h ≡ false → (list : List Key) → list ++ later ≡ list ++ keys_at d node point place (drop place hooks)
-  pass_turn e list = ap (λ ks. list ++ ks) (sym (at_turn ∙ passed e))
-
--- the keys of the points from this one on
-abbrev pub keys_from : Def → ℕ → List TermNode → List Key
-keys_from d point nodes = flat_map (λ at. keys_at d at.1 at.0 0 d.hooks) (enumerate_from point nodes)
+  pub pass_turn : takes_node d node h ≡ false → (list : List Key) → list ++ later d node point hooks place h l is ≡ list ++ keys_at d node point place (drop place hooks)
+  pass_turn e list = ap (λ ks. list ++ ks) (sym (passed d node point hooks place h l is e))
 
 pub point_turn : (d : Def) (nodes : List TermNode) (point : ℕ) (node : TermNode) (old new : List Key) → slice_get nodes point ≡ Some node → point < length nodes → new ≡ old ++ keys_at d node point 0 d.hooks →
     new ++ keys_from d (point + 1) (drop (point + 1) nodes) ≡ old ++ keys_from d point (drop point nodes)
 point_turn d nodes point node old new at l e =
     let here = keys_at d node point 0 d.hooks in
     let later = keys_from d (point + 1) (drop (point + 1) nodes) in
-    let split : drop point nodes ≡ node ∷ drop (point + 1) nodes =
-    drop-cons nodes point node l ∙ ap (λ x. x ∷ drop (suc point) nodes) (get_or_from_slice_get nodes point node node at) ∙ ap (λ k. node ∷ drop k nodes) (sym (add-one point)) in
-    ap (λ xs. xs ++ later) e ∙ append_assoc old here later ∙ ap (λ ns. old ++ keys_from d point ns) (sym split)
+    ap (λ xs. xs ++ later) e ∙ append_assoc old here later ∙ ap (λ ns. old ++ keys_from d point ns) (sym (node_first nodes point node at l))
 
 -- the keys of a program have its hooks and points
 abbrev pub IsWithin : ℕ → ℕ → Key → Type 0

@@ -1,13 +1,12 @@
 -- What an analysis is of, its tables by the slots that hold them, and its answer.
 use Rattle.std.specs.Prelude.{◌≡◌, ◌≤◌, ℕ, suc, Bool, ◌&&◌, length, map}
 use Rattle.sk_term.specs.Program.{IsProgramOf}
-use Rattle.sk_deriv.specs.Moves.{Setting}
+use Rattle.sk_deriv.specs.Moves.{Setting, setting_of}
 use Rattle.sk_lattice.specs.Domain.{Domain}
 use Rattle.sk_absfilter.specs.Laws.{outcome_leq}
 use Rattle.sk_rounds.specs.Walks.{Inputs, Outputs, Table, Walks, WalksLaws}
 use Rattle.sk_rounds.specs.Rounds.{Told, table_after, IsAnalysed}
 use Rattle.sk_abswalk.specs.Walk.{Flows}
-use Rattle.sk_abswalk.specs.Fits.{setting_of}
 use Rattle.sk_abswalk.specs.Reading.{Key, CoversFit, keyed, walks_of, triples_of}
 use Rattle.sk_analyse.specs.declared.job.Job.{Job}
 use Rattle.sk_analyse.specs.declared.sides.Sides.{Sides}

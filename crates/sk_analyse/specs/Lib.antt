@@ -1,4 +1,3 @@
 pub mod Sides
 pub mod Tabled
-pub mod Keys
 pub mod Jobs

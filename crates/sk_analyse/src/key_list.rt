@@ -2,8 +2,7 @@
 ghost use Rattle.std.specs.Prelude.{◌≡◌, ◌<◌, ◌++◌, length, slice_get, ◌==◌, Some, IfOk, OnOk};
 ghost use Rattle.sk_term.specs.declared.node.TermNode.{TermNode};
 ghost use Rattle.sk_term.specs.Program.{IsProgramOf};
-ghost use Rattle.sk_term.specs.Terms.{keys};
-ghost use Rattle.sk_analyse.specs.Keys.{keys_at};
+ghost use Rattle.sk_term.specs.Terms.{keys, keys_at};
 
 use sk_base::{NoMemory, Seq};
 use sk_def::{Hook, HookId, SortId};

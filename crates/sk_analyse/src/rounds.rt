@@ -2,11 +2,11 @@
 ghost use Rattle.std.specs.Prelude.{◌≡◌, ◌<◌, ◌≤◌, ◌^◌, true, map, flat_map, IfOk};
 ghost use Rattle.sk_term.specs.Program.{IsProgramOf};
 ghost use Rattle.sk_term.specs.Terms.{keys};
+ghost use Rattle.sk_deriv.specs.Moves.{setting_of};
 ghost use Rattle.sk_rounds.specs.Walks.{Inputs, Outputs};
 ghost use Rattle.sk_rounds.specs.Rounds.{round_bound, IsAnalysed};
 ghost use Rattle.sk_rounds.specs.Accepted.{row_at};
 ghost use Rattle.sk_abswalk.specs.Tables.{IsAccepted};
-ghost use Rattle.sk_abswalk.specs.Fits.{setting_of};
 ghost use Rattle.sk_abswalk.specs.Reading.{CoversFit, triple_of, walks_of};
 ghost use Rattle.sk_abswalk.specs.LeastTable.{HasOnePerKey, TriplesFit, IsLeastTable};
 ghost use Rattle.sk_analyse.specs.Tabled.{tabled};

@@ -1,8 +1,8 @@
 //! Both sides of all keys of a program.
 ghost use Rattle.std.specs.Prelude.{◌≡◌, ℤ, Bool, List, IfOk};
 ghost use Rattle.sk_term.specs.Program.{IsProgramOf};
+ghost use Rattle.sk_deriv.specs.Moves.{setting_of};
 ghost use Rattle.sk_rounds.specs.Rounds.{first_table};
-ghost use Rattle.sk_abswalk.specs.Fits.{setting_of};
 ghost use Rattle.sk_abswalk.specs.Reading.{CoversFit, walks_of};
 ghost use Rattle.sk_analyse.specs.Tabled.{tabled, HasAllSlots};
 

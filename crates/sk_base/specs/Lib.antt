@@ -1,7 +1,6 @@
 pub mod Answer
 pub mod Causes
 pub mod Files
-pub mod Last
 pub mod Lists
 pub mod MemFiles
 pub mod MemFilesParts

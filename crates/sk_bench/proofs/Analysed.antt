@@ -3,6 +3,7 @@ use Rattle.std.proofs.Common.{◌≡◌, ◌+◌, ℕ, ℤ, Bool, true, List, le
 use Rattle.sk_def.specs.declared.def.Def.{Def}
 use Rattle.sk_sort.specs.Definition.{IsWellSorted}
 use Rattle.sk_term.specs.Program.{Program, IsProgramOf, number_leaves}
+use Rattle.sk_deriv.specs.Moves.{setting_of}
 use Rattle.sk_lattice.specs.Domain.{Domain}
 use Rattle.sk_lattice.specs.Thresholds.{IsThresholds, AreMarksOf}
 use Rattle.sk_lattice.proofs.Tuples.{tuple_laws}
@@ -14,7 +15,6 @@ use Rattle.sk_table.specs.declared.triple.Cover.{Cover}
 use Rattle.sk_rounds.specs.Walks.{Table, Walks}
 use Rattle.sk_rounds.specs.Rounds.{IsAnalysed, table_after}
 use Rattle.sk_rounds.proofs.Climbs.{one_end}
-use Rattle.sk_abswalk.specs.Fits.{setting_of}
 use Rattle.sk_abswalk.specs.Tables.{AcceptedAreSound}
 use Rattle.sk_abswalk.specs.Walk.{Flows}
 use Rattle.sk_abswalk.specs.Reading.{Key, CoversFit, walks_of, triples_of}

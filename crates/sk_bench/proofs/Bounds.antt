@@ -9,7 +9,7 @@ use Rattle.sk_def.specs.declared.def.Def.{Def}
 use Rattle.sk_def.specs.declared.ids.HookId.{HookId}
 use Rattle.sk_def.specs.declared.def.Hook.{Hook}
 use Rattle.sk_term.specs.declared.node.TermNode.{TermNode}
-use Rattle.sk_term.specs.Terms.{keys, takes_node}
+use Rattle.sk_term.specs.Terms.{keys, keys_at, takes_node}
 use Rattle.sk_deriv.specs.Moves.{Setting}
 use Rattle.sk_lattice.specs.Domain.{Domain}
 use Rattle.sk_lattice.specs.Thresholds.{IsThresholds}
@@ -19,7 +19,6 @@ use Rattle.sk_table.specs.declared.triple.Cover.{Cover}
 use Rattle.sk_rounds.specs.Rounds.{round_bound}
 use Rattle.sk_rounds.specs.Tuples.{rank_cap}
 use Rattle.sk_abswalk.specs.Reading.{walks_of}
-use Rattle.sk_constr.specs.Keys.{keys_at}
 use Rattle.sk_bench.specs.Ranks.{RanksAreSmall}
 
 filter_one : {X : Type 0} (p : X → Bool) (x : X) (xs : List X) (b : Bool) → p x ≡ b → length (filter p (x ∷ xs)) ≤ length (filter p xs) + 1

@@ -12,14 +12,14 @@ use Rattle.sk_def.specs.declared.ids.SortId.{SortId}
 use Rattle.sk_term.specs.declared.node.TermNode.{TermNode}
 use Rattle.sk_term.specs.Program.{Program, IsProgramOf}
 use Rattle.sk_term.specs.Terms.{sort_of_node}
-use Rattle.sk_deriv.specs.Moves.{Setting}
+use Rattle.sk_deriv.specs.Moves.{Setting, setting_of}
 use Rattle.sk_lattice.specs.Domain.{Domain}
 use Rattle.sk_lattice.specs.Empty.{is_proper}
 use Rattle.sk_lattice.specs.Shapes.{has_sorts}
 use Rattle.sk_table.specs.declared.triple.Cover.{Cover}
 use Rattle.sk_table.specs.Fits as table
 use Rattle.sk_table.specs.Tables.{has_sort_at}
-use Rattle.sk_abswalk.specs.Fits.{CallFits, TableFits, setting_of}
+use Rattle.sk_abswalk.specs.Fits.{CallFits, TableFits}
 use Rattle.sk_abswalk.specs.Reading.{CoversFit}
 use Rattle.sk_bench.specs.Analysing.{IsProperLine}
 use Rattle.sk_bench.specs.Jobs.{CoverFits, inputs_of}

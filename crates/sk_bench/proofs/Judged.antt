@@ -11,7 +11,7 @@ use Rattle.sk_table.specs.declared.triple.Triple.{Triple}
 use Rattle.sk_table.specs.Fits.{TripleFits}
 use Rattle.sk_term.specs.Program.{Program, IsProgramOf}
 use Rattle.sk_verify.specs.Reading.{ReadTablesFit}
-use Rattle.sk_abswalk.specs.Fits.{setting_of, TableFits}
+use Rattle.sk_abswalk.specs.Fits.{TableFits}
 use Rattle.sk_abswalk.specs.Tables.{IsSound, IsBounded}
 use Rattle.sk_abswalk.specs.Verdict.{verdict_of, VerdictsAreRight}
 use Rattle.sk_abswalk.specs.declared.verdict.Verdict.{Verdict}
@@ -30,7 +30,7 @@ use Rattle.sk_bench.specs.Jobs.{ReadJob}
 use Rattle.sk_bench.specs.Judging.{JudgesTable}
 use Rattle.sk_bench.specs.Plan.{WriteAnswer}
 use Rattle.sk_bench.specs.Refused.{Refused}
-use Rattle.sk_deriv.specs.Moves.{Setting}
+use Rattle.sk_deriv.specs.Moves.{Setting, setting_of}
 use Rattle.sk_bench.specs.Verdicts.{Trial, IsVerdictText, VerdictMeans, setting_at, verdict_ending, verdict_text}
 
 module _ {D : Type 0} (d : Domain D) (asked : Trial D) where

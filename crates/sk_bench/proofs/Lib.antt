@@ -9,7 +9,6 @@ pub mod Judged
 pub mod Kept
 pub mod Leaves
 pub mod Marks
-pub mod Narrow
 pub mod Numbers
 pub mod OneList
 pub mod Padded

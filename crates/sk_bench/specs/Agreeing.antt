@@ -3,10 +3,10 @@ use Rattle.std.specs.Prelude.{◌≡◌, ℤ, Bool, true, List}
 use Rattle.sk_def.specs.declared.def.Def.{Def}
 use Rattle.sk_sort.specs.Definition.{IsWellSorted}
 use Rattle.sk_term.specs.Program.{Program, IsProgramOf}
+use Rattle.sk_deriv.specs.Moves.{setting_of}
 use Rattle.sk_lattice.specs.Domain.{Domain}
 use Rattle.sk_lattice.specs.Thresholds.{IsThresholds}
 use Rattle.sk_table.specs.declared.triple.Cover.{Cover}
-use Rattle.sk_abswalk.specs.Fits.{setting_of}
 use Rattle.sk_abswalk.specs.Reading.{CoversFit, walks_of}
 use Rattle.sk_analyse.specs.declared.rounds.Analysis.{Analysis}
 use Rattle.sk_analyse.specs.Jobs.{IsAnalysis}

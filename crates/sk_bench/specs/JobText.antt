@@ -1,9 +1,9 @@
 -- The text of a job.
-use Rattle.std.specs.Prelude.{ℕ, List, drop, Option, Some, None, Result, Ok, Err}
+use Rattle.std.specs.Prelude.{ℕ, List, Option, Some, None, Result, Ok, Err}
 use Rattle.sk_base.specs.Answer.{◌>>=◌}
 use Rattle.sk_base.specs.Place.{place_at}
 use Rattle.sk_base.specs.declared.place.Place.{Place}
-use Rattle.sk_lex.specs.Symbols.{symbols, offset_of}
+use Rattle.sk_lex.specs.Symbols.{symbols, place_in}
 use Rattle.sk_lex.specs.Tokens.{tokens_of}
 use Rattle.sk_lex.specs.declared.token.Token.{Token}
 use Rattle.sk_lex.specs.declared.token.LexError.{LexError}
@@ -32,7 +32,7 @@ lexed text (Err (error, at)) = Err (Lex error, place_at text at)
 -- another one stands at its token, or at the text's end
 abbrev pub located : List ℕ → List Token → Result ReadJob (JobError × ℕ) → Result ReadJob (JobError × Place)
 located text tokens (Ok job) = Ok job
-located text tokens (Err (error, number)) = Err (error, place_at text (offset_of text (drop number tokens)))
+located text tokens (Err (error, number)) = Err (error, place_in text tokens number)
 
 -- a job's text over a definition: what it says, or its error and where it stands
 unfoldable pub read_job : Def → List ℕ → Result ReadJob (JobError × Place)

@@ -3,7 +3,7 @@ use Rattle.std.specs.Prelude.{◌≡◌, Bool, true, ℕ, ℤ, List}
 use Rattle.sk_def.specs.declared.def.Def.{Def}
 use Rattle.sk_term.specs.Program.{Program}
 use Rattle.sk_term.specs.Program.{number_leaves}
-use Rattle.sk_deriv.specs.Moves.{Setting}
+use Rattle.sk_deriv.specs.Moves.{Setting, setting_of}
 use Rattle.sk_lattice.specs.Domain.{Domain}
 use Rattle.sk_lattice.specs.DomainTexts.{DomainTexts}
 use Rattle.sk_lattice.specs.Thresholds.{IsThresholds, AreMarksOf}
@@ -12,7 +12,6 @@ use Rattle.sk_table.specs.declared.triple.Triple.{Triple}
 use Rattle.sk_table.specs.Texts.{table_text}
 use Rattle.sk_rounds.specs.Walks.{Table, Walks}
 use Rattle.sk_rounds.specs.Rounds.{IsAnalysed}
-use Rattle.sk_abswalk.specs.Fits.{setting_of}
 use Rattle.sk_abswalk.specs.Walk.{Flows}
 use Rattle.sk_abswalk.specs.Reading.{Key, walks_of, triples_of}
 use Rattle.sk_abswalk.specs.LeastTable.{HasOnePerKey, IsLeastTable}

@@ -1,9 +1,7 @@
 -- The verdict on a table: its text, how the command ends, and what that says of derivations.
-use Rattle.std.specs.Prelude.{◌≡◌, ℕ, List, [], ◌++◌, All, Some, codes, decimal, length, slice_get}
-use Rattle.std.specs.Option.{option_map_or}
-use Rattle.sk_def.specs.declared.ids.HookId.{HookId}
+use Rattle.std.specs.Prelude.{◌≡◌, ℕ, List, ◌++◌, All, Some, codes, decimal, length}
+use Rattle.sk_def.specs.Named.{hook_name}
 use Rattle.sk_def.specs.declared.def.Def.{Def}
-use Rattle.sk_def.specs.declared.def.Hook.{Hook}
 use Rattle.sk_lattice.specs.Domain.{Domain}
 use Rattle.sk_lattice.specs.DomainTexts.{DomainTexts}
 use Rattle.sk_lattice.specs.Texts.{tuple_text}
@@ -30,13 +28,9 @@ pub record Trial (D : Type 0) : Type 0 where
 abbrev pub setting_at : {D : Type 0} → Trial D → Setting
 setting_at trial = record { def = trial.def; nodes = trial.job.nodes; names = length trial.job.names }
 
--- the name of a hook of the definition
-abbrev pub hook_text : Def → HookId → List ℕ
-hook_text def hook = option_map_or (λ (h : Hook). h.name) (slice_get def.hooks hook.0) []
-
 -- why a triple isn't justified
 abbrev pub why_text : {D : Type 0} → Domain D → DomainTexts D → Def → List (List ℕ) → Why D → List ℕ
-why_text d t def names (Uncovered hook point args) = codes "uncovered " ++ hook_text def hook ++ codes " " ++ decimal point ++ codes " " ++ tuple_text d t names args
+why_text d t def names (Uncovered hook point args) = codes "uncovered " ++ hook_name def hook ++ codes " " ++ decimal point ++ codes " " ++ tuple_text d t names args
 why_text d t def names (Larger outs) = codes "larger " ++ tuple_text d t names outs
 
 -- the line of a verdict on a table of so many triples

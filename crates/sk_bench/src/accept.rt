@@ -6,7 +6,6 @@ ghost use Rattle.sk_def.specs.Fits.{DefinitionFits};
 ghost use Rattle.sk_deftext.specs.Faults.{refusal_of as read_fault};
 ghost use Rattle.sk_deftext.specs.Places.{PlacesFit};
 ghost use Rattle.sk_sort.specs.Definition.{first_fault};
-ghost use Rattle.sk_constr.specs.Fits.{BranchesAreNarrow};
 ghost use Rattle.sk_term.specs.Program.{IsProgramOf};
 ghost use Rattle.sk_table.specs.Fits.{TripleFits};
 ghost use Rattle.sk_bench.specs.Accepted.{accepted_definition, accepted_job, accepted_table, program_of, read_refusal, unless_fault, FaultIsPlaced};
@@ -32,11 +31,10 @@ pub(crate) const LIMIT: usize = 4_194_304;
 pub(crate) const TABLE_LIMIT: usize = 16_777_216;
 
 /// Reads a definition and checks its sorts.
-#[tactic(auto, unfolding(crate::specs::Accepted::accepted_definition), using(crate::proofs::Narrow::branches_are_narrow))]
+#[tactic(auto, unfolding(crate::specs::Accepted::accepted_definition))]
 pub(crate) fn accept_definition(alloc: Global, text: &[u8]) -> Result<Checked, Unaccepted>
     requires { length text.now < 2 ^ 32 - 1 }
-    ensures gives { Gives (λ checked. checked) refusal_of result (accepted_definition text.now) }
-    ensures narrow { IfOk result (λ checked. BranchesAreNarrow checked) }
+    ensures { Gives (λ checked. checked) refusal_of result (accepted_definition text.now) }
 {
     match read_def(alloc, text) {
         Ok(source) => check_source(alloc, source),

@@ -1,6 +1,5 @@
 //! Calls of the crates below on definitions and jobs that were read.
 ghost use Rattle.std.specs.Prelude.{◌≡◌, ◌<◌, length, IfOk};
-ghost use Rattle.sk_constr.specs.Fits.{BranchesAreNarrow};
 ghost use Rattle.sk_term.specs.Program.{IsProgramOf};
 ghost use Rattle.sk_bench.specs.JobText.{seen};
 ghost use Rattle.sk_bench.specs.Jobs.{CallsFit};
@@ -26,9 +25,7 @@ use std::sync::ledger::{Blank, Ledger};
 use std::test::Fail;
 
 /// The definition of a text.
-fn definition(alloc: Global, text: &str) -> Result<Checked, NoMemory>
-    ensures { IfOk result (λ checked. BranchesAreNarrow checked) }
-{
+fn definition(alloc: Global, text: &str) -> Result<Checked, NoMemory> {
     if text.len() > 1_000_000 {
         return Err(NoMemory);
     }
@@ -58,7 +55,6 @@ fn solution(alloc: Global, checked: &Checked, job: &Job) -> Result<Assignment<Si
     requires program { IsProgramOf checked.now job.now.arena }
     requires over { job.now.arena.names ≡ length job.now.names }
     requires calls { CallsFit checked.now (seen job.now) }
-    requires narrow { BranchesAreNarrow checked.now }
 {
     let list = generate(alloc, checked, &job.arena, &job.sign)?;
     solve(alloc, &list)

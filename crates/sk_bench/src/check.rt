@@ -6,11 +6,11 @@ ghost use Rattle.sk_bench.specs.Following.{Follows, Prepares};
 ghost use Rattle.sk_bench.specs.Plan.{Read, Write};
 
 use crate::accept::{LIMIT, accept_definition};
-use crate::refused::{Unaccepted, put_count, refuse};
+use crate::refused::{Unaccepted, refuse};
 use crate::status::{Ending, Output, Stop};
 use sk_base::{Files, NoMemory, read_file};
 use sk_def::Def;
-use sk_value::put_bytes;
+use sk_value::{put_bytes, put_count};
 use std::alloc::Global;
 
 /// Reads a definition, and makes the line that says how much it declares, or why it is refused.

@@ -1,6 +1,5 @@
 //! The command `constrain`.
 ghost use Rattle.std.specs.Prelude.{◌≡◌, ◌≤◌, length, All};
-ghost use Rattle.sk_constr.specs.Fits.{BranchesAreNarrow};
 ghost use Rattle.sk_term.specs.Program.{IsProgramOf};
 ghost use Rattle.sk_bench.specs.Commands.{job_plan, survey};
 ghost use Rattle.sk_bench.specs.JobText.{seen};
@@ -35,7 +34,6 @@ pub(crate) fn constrain(
     requires program { IsProgramOf checked.now job.now.arena }
     requires over { job.now.arena.names ≡ length job.now.names }
     requires calls { CallsFit checked.now (seen job.now) }
-    requires narrow { BranchesAreNarrow checked.now }
     ensures { Prepares (job_plan (JobCommand.Constrain domain) checked.now text.now (seen job.now)) result }
 {
     match domain {
@@ -59,7 +57,6 @@ fn constrain_over<D: NumDom>(
     requires program { IsProgramOf checked.now job.now.arena }
     requires over { job.now.arena.names ≡ length job.now.names }
     requires calls { All (CoverFits checked.now job.now.arena.nodes (length job.now.names)) covers.now }
-    requires narrow { BranchesAreNarrow checked.now }
     ensures { Surveys (IsConstraintsText D.domain D.texts) checked.now (seen job.now) text.now covers.now result }
 {
     if covers.is_empty() {
@@ -80,7 +77,6 @@ fn constraints<D: NumDom>(
     requires program { IsProgramOf checked.now job.now.arena }
     requires over { job.now.arena.names ≡ length job.now.names }
     requires calls { All (CoverFits checked.now job.now.arena.nodes (length job.now.names)) covers.now }
-    requires narrow { BranchesAreNarrow checked.now }
     ensures { Makes (IsConstraintsText D.domain D.texts (survey checked.now (seen job.now) covers.now)) result }
 {
     let list = generate(alloc, checked, &job.arena, covers)?;

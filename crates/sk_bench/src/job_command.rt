@@ -2,7 +2,6 @@
 ghost use Rattle.std.specs.Prelude.{◌≡◌, ◌≤◌, length};
 ghost use Rattle.sk_base.specs.Causes.{NeverFalls};
 ghost use Rattle.sk_term.specs.Program.{IsProgramOf};
-ghost use Rattle.sk_constr.specs.Fits.{BranchesAreNarrow};
 ghost use Rattle.sk_bench.specs.Jobs.{CallsFit};
 ghost use Rattle.sk_bench.specs.Plan.{Read};
 ghost use Rattle.sk_bench.specs.Commands.{definition_on, job_on, job_plan};
@@ -68,7 +67,6 @@ fn read_job_of<F: Files>(
     checked: &Checked,
     job: &str,
 ) -> Result<Output, Stop>
-    requires { BranchesAreNarrow checked.now }
     ensures follows { Follows (F.folder files.old) (F.selection files.old) (F.selection files.new) (F.faults files.old) (F.faults files.new) (Read job.now LIMIT (job_on command checked.now)) result }
     ensures folder { F.folder files.new ≡ F.folder files.old }
     ensures count { NeverFalls (F.faults files.old) (F.faults files.new) }
@@ -84,8 +82,7 @@ fn on_text(
     checked: &Checked,
     text: &[u8],
 ) -> Result<Output, Stop>
-    requires short { length text.now ≤ LIMIT }
-    requires narrow { BranchesAreNarrow checked.now }
+    requires { length text.now ≤ LIMIT }
     ensures { Prepares (job_on command checked.now text.now) result }
 {
     match accept_job(alloc, checked.def(), text) {
@@ -107,7 +104,6 @@ fn work(
     requires program { IsProgramOf checked.now job.now.arena }
     requires over { job.now.arena.names ≡ length job.now.names }
     requires calls { CallsFit checked.now (seen job.now) }
-    requires narrow { BranchesAreNarrow checked.now }
     ensures { Prepares (job_plan command checked.now text.now (seen job.now)) result }
 {
     match command {

@@ -5,12 +5,11 @@ ghost use Rattle.sk_deriv.specs.Listing.{outcomes};
 ghost use Rattle.sk_deriv.specs.Tree.{outs_of};
 ghost use Rattle.sk_bench.specs.Outcomes.{outcome_lines, outcomes_lines, outcomes_text};
 
-use crate::refused::put_count;
 use sk_base::{Names, NoMemory};
 use sk_concrete::Found;
 use sk_def::Def;
 use sk_deriv::Forest;
-use sk_value::{Tuple, put_bytes};
+use sk_value::{Tuple, put_bytes, put_count};
 use std::alloc::Global;
 
 /// The lines of the results in order, from number 1, each with its derivation, and last how many there are.

@@ -1,13 +1,12 @@
 //! Refused texts, and the line that says so.
-ghost use Rattle.std.specs.Prelude.{◌≡◌, ◌++◌, ◌-◌, ◌<◌, ◌^◌, decimal, length, OnOk};
+ghost use Rattle.std.specs.Prelude.{◌≡◌, ◌-◌, ◌<◌, ◌^◌, length};
 ghost use Rattle.sk_bench.specs.Following.{Prepares};
 ghost use Rattle.sk_bench.specs.Plan.{Write};
 ghost use Rattle.sk_bench.specs.Refused.{refused_of, refused_line, missing};
 
 use crate::status::{Ending, Output, Stop};
-use itoa::Buffer;
-use sk_base::{NoMemory, Place, place_of};
-use sk_value::put_bytes;
+use sk_base::{Place, place_of};
+use sk_value::{put_bytes, put_count};
 use std::alloc::Global;
 
 /// Why a text is refused: its error's name, and the error's place.
@@ -22,14 +21,6 @@ pub(crate) struct Refusal {
 pub(crate) enum Unaccepted {
     Refused(Refusal),
     NoMemory,
-}
-
-/// Appends a number.
-pub(crate) fn put_count(out: &mut Vec<u8>, count: usize) -> Result<(), NoMemory>
-    ensures { OnOk result (out.new.items ≡ out.old.items ++ decimal count) }
-{
-    let mut buffer = Buffer::new();
-    put_bytes(out, buffer.format(count).as_bytes())
 }
 
 /// The refusal of a job that lacks a line, at the end of its text.

@@ -1,6 +1,5 @@
 //! The command `solve`.
 ghost use Rattle.std.specs.Prelude.{◌≡◌, ◌≤◌, length};
-ghost use Rattle.sk_constr.specs.Fits.{BranchesAreNarrow};
 ghost use Rattle.sk_term.specs.Program.{IsProgramOf};
 ghost use Rattle.sk_bench.specs.Analysing.{AgreeablySolves};
 ghost use Rattle.sk_bench.specs.Commands.{job_plan, survey};
@@ -36,7 +35,6 @@ pub(crate) fn solve(
     requires program { IsProgramOf checked.now job.now.arena }
     requires over { job.now.arena.names ≡ length job.now.names }
     requires calls { CallsFit checked.now (seen job.now) }
-    requires narrow { BranchesAreNarrow checked.now }
     ensures { Prepares (job_plan JobCommand.Solve checked.now text.now (seen job.now)) result }
 {
     if job.sign.is_empty() {
@@ -52,7 +50,6 @@ fn solution(alloc: Global, checked: &Checked, job: &Job) -> Result<Output, Stop>
     requires program { IsProgramOf checked.now job.now.arena }
     requires over { job.now.arena.names ≡ length job.now.names }
     requires calls { CallsFit checked.now (seen job.now) }
-    requires narrow { BranchesAreNarrow checked.now }
     ensures { Makes (AgreeablySolves (survey checked.now (seen job.now) job.now.sign)) result }
 {
     solutions_agree::<Sign>();

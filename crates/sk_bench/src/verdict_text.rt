@@ -1,14 +1,13 @@
 //! The text of a verdict on a table.
 ghost use Rattle.std.specs.Prelude.{◌≡◌, ◌++◌, ◌<◌, length, OnOk};
-ghost use Rattle.sk_bench.specs.Verdicts.{hook_text, verdict_ending, verdict_text, why_text};
+ghost use Rattle.sk_bench.specs.Verdicts.{verdict_ending, verdict_text, why_text};
 
-use crate::refused::put_count;
 use crate::status::Ending;
 use sk_abswalk::{Verdict, Why};
 use sk_base::{Names, NoMemory};
-use sk_def::{Def, HookId};
+use sk_def::Def;
 use sk_lattice::NumDom;
-use sk_value::put_bytes;
+use sk_value::{put_bytes, put_count};
 
 /// How the command ends with a verdict.
 pub(crate) fn verdict_ending<D: NumDom>(verdict: &Verdict<D>) -> Ending
@@ -63,7 +62,7 @@ fn put_why<D: NumDom>(
     match why {
         Why::Uncovered { hook, point, args } => {
             put_bytes(out, b"uncovered ")?;
-            put_hook(out, def, *hook)?;
+            put_bytes(out, def.hook_name(*hook))?;
             put_bytes(out, b" ")?;
             put_count(out, usize::from(*point))?;
             put_bytes(out, b" ")?;
@@ -73,15 +72,5 @@ fn put_why<D: NumDom>(
             put_bytes(out, b"larger ")?;
             outs.put_text(names, out)
         }
-    }
-}
-
-/// Appends the name of a hook.
-fn put_hook(out: &mut Vec<u8>, def: &Def, hook: HookId) -> Result<(), NoMemory>
-    ensures { OnOk result (out.new.items ≡ out.old.items ++ hook_text def.now hook) }
-{
-    match def.hooks.as_slice().get(usize::from(hook.0)) {
-        Some(hook) => put_bytes(out, hook.name.as_bytes()),
-        None => Ok(()),
     }
 }

@@ -30,9 +30,8 @@ use Rattle.sk_term.proofs.Entries.{entries_fit}
 use Rattle.sk_term.specs.Terms.{arguments_of}
 use Rattle.sk_deriv.specs.declared.call.Call.{Call}
 use Rattle.sk_deriv.specs.Env.{start_of}
-use Rattle.sk_deriv.specs.Moves.{Setting, fit_hook, have_sorts}
+use Rattle.sk_deriv.specs.Moves.{Setting, fit_hook, have_sorts, setting_of}
 use Rattle.sk_deriv.specs.Listing.{trails, closed, rule_at, derivations}
-use Rattle.sk_concrete.specs.Found.{setting_of}
 use Rattle.sk_concrete.specs.Rules.{RuleFor}
 use Rattle.sk_concrete.proofs.Bounds.{all_at, sorts_counted}
 use Rattle.sk_concrete.proofs.Fitted.{start_env_fits}

@@ -1,17 +1,11 @@
 -- What the results of a call are sought in, and the forest that they come with.
 use Rattle.std.specs.Prelude.{ℕ, ◌<◌, ◌≤◌, List, length}
-use Rattle.sk_def.specs.declared.def.Def.{Def}
-use Rattle.sk_term.specs.Program.{Program}
 use Rattle.sk_deriv.specs.declared.forest.Node.{Node}
 use Rattle.sk_deriv.specs.Forest.{tree_at}
 use Rattle.sk_deriv.specs.Tree.{height}
 use Rattle.sk_deriv.specs.Moves.{Setting, IsValid}
 use Rattle.sk_deriv.specs.declared.call.Call.{Call}
 use Rattle.sk_deriv.specs.Results.{Outcome, Results}
-
--- what derivations are valid for: a definition and a program of it
-abbrev pub setting_of : Def → Program → Setting
-setting_of d program = record { def = d; nodes = program.nodes; names = program.names }
 
 -- every node of the forest is the root of a valid derivation of height at most n
 abbrev pub NodesDerive : Setting → ℕ → List Node → Type 0

@@ -2,7 +2,7 @@
 ghost use Rattle.std.specs.Prelude.{◌≡◌, ◌<◌, true, length, IfOk};
 ghost use Rattle.std.specs.List.{list_all};
 ghost use Rattle.sk_term.specs.Program.{IsProgramOf};
-ghost use Rattle.sk_concrete.specs.Found.{setting_of};
+ghost use Rattle.sk_deriv.specs.Moves.{setting_of};
 ghost use Rattle.sk_concrete.specs.Rules.{RuleFor};
 ghost use Rattle.sk_concrete.specs.Calls.{RuleWalks};
 ghost use Rattle.sk_concrete.specs.Fitting.{answers_fit, has_values};

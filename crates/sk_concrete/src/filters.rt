@@ -2,7 +2,6 @@
 ghost use Rattle.std.specs.Prelude.{◌≡◌, ◌≤◌, ◌++◌, true, length, IfOk, OnOk};
 ghost use Rattle.std.specs.List.{flat_map, list_all};
 ghost use Rattle.sk_def.specs.Signatures.{parameters};
-ghost use Rattle.sk_filter.specs.Results.{is_choice};
 ghost use Rattle.sk_concrete.specs.Worlds.{the_one, picked, filtered};
 ghost use Rattle.sk_concrete.specs.Fitting.{takes_args};
 
@@ -11,16 +10,9 @@ use crate::world::World;
 use sk_base::{NoMemory, Seq};
 use sk_def::{Filter, Var};
 use sk_deriv::Step;
-use sk_filter::apply;
+use sk_filter::{apply, is_choice};
 use sk_value::Tuple;
 use std::alloc::Global;
-
-/// Whether a derivation picks one of the filter's results.
-fn is_choice(filter: Filter) -> bool
-    ensures { result ≡ is_choice filter }
-{
-    matches!(filter, Filter::AnyBool | Filter::Pick)
-}
 
 /// The world after the one result, where there is just one.
 fn push_the_one(

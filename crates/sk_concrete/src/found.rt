@@ -4,7 +4,8 @@ ghost use Rattle.sk_term.specs.Program.{IsProgramOf};
 ghost use Rattle.sk_deriv.specs.Results.{Results};
 ghost use Rattle.sk_deriv.specs.Listing.{outcomes};
 ghost use Rattle.sk_deriv.specs.Forest.{tree_at};
-ghost use Rattle.sk_concrete.specs.Found.{setting_of, NodesDerive};
+ghost use Rattle.sk_deriv.specs.Moves.{setting_of};
+ghost use Rattle.sk_concrete.specs.Found.{NodesDerive};
 ghost use Rattle.sk_concrete.specs.Trees.{KeepsFirst};
 
 use crate::derive::derive;

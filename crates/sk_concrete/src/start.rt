@@ -4,7 +4,7 @@ ghost use Rattle.sk_def.specs.Layout.{AreBelow};
 ghost use Rattle.sk_deriv.specs.Env.{bind_children};
 ghost use Rattle.sk_term.specs.Program.{IsProgramOf, children_of_point};
 ghost use Rattle.sk_sort.specs.Rules.{header_sorts};
-ghost use Rattle.sk_concrete.specs.Found.{setting_of};
+ghost use Rattle.sk_deriv.specs.Moves.{setting_of};
 ghost use Rattle.sk_concrete.specs.Rules.{RuleFor, HasNoRule, start_at, world_of};
 ghost use Rattle.sk_concrete.specs.Fitting.{env_fits};
 

@@ -1,7 +1,7 @@
 -- What the variables of a rule stand for has the sorts of the variables.
-use Rattle.std.proofs.Common.{◌≡◌, ℕ, zero, suc, ◌+◌, ◌<◌, ◌≤◌, List, [], ◌∷◌, map, length, replicate, Option, Some, None, refl, sym, ◌∙◌, ap, subst, arith}
+use Rattle.std.proofs.Common.{◌≡◌, ℕ, zero, suc, ◌+◌, ◌<◌, List, [], ◌∷◌, map, length, replicate, Option, Some, None, refl, sym, ◌∙◌, ap, subst, arith}
 use Rattle.std.specs.Prelude.{slice_get, slice_set, slice_index_or, unwrap_or}
-use Rattle.std.specs.List.{AllByRecursion, AllZip, filter_map}
+use Rattle.std.specs.List.{AllByRecursion, AllZip}
 use Rattle.std.specs.Option.{option_and_then}
 use Rattle.sk_base.specs.declared.flow.FlowSort.{FlowSort}
 use Rattle.sk_def.specs.declared.ids.Var.{Var}
@@ -16,7 +16,7 @@ use Rattle.sk_def.specs.declared.sorts.ArgSort.{ArgSort}
 use Rattle.sk_def.specs.declared.sorts.ArgSort.TheVariants as arg
 use Rattle.sk_def.specs.declared.sorts.VarSort.{VarSort}
 use Rattle.sk_def.specs.declared.sorts.VarSort.TheVariants as variable
-use Rattle.sk_def.specs.Signatures.{parameters, results}
+use Rattle.sk_def.specs.Signatures.{parameters}
 use Rattle.sk_def.specs.Sorts.{Sorts, sort_of, define, HaveSorts, target_sort}
 use Rattle.sk_sort.specs.Rules.{nothing, header_sorts, arg_sort}
 use Rattle.sk_term.specs.declared.node.Child.{Child}

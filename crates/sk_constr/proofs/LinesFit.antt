@@ -1,8 +1,8 @@
 -- The lines of a well-sorted rule fit the positions of its bones.
-use Rattle.std.proofs.Common.{◌≡◌, ℕ, zero, suc, ◌+◌, ◌<◌, ◌≤◌, List, [], ◌∷◌, ◌++◌, map, length, drop, take, sum, get_or, Option, Some, None, Ok, Result, refl, sym, ◌∙◌, ap, ap₂, subst, arith, append_assoc, length-append}
-use Rattle.std.specs.Prelude.{slice_get, slice_set, slice_index, slice_index_or}
-use Rattle.std.specs.List.{AllByRecursion, AllZip, filter_map, flat_map}
-use Rattle.std.specs.Option.{option_map_or, option_and_then}
+use Rattle.std.proofs.Common.{◌≡◌, ℕ, zero, suc, ◌+◌, ◌<◌, ◌≤◌, List, [], ◌∷◌, ◌++◌, map, length, drop, take, sum, Option, Some, None, refl, sym, ◌∙◌, ap, ap₂, subst, arith, append_assoc, length-append}
+use Rattle.std.specs.Prelude.{slice_get, slice_index}
+use Rattle.std.specs.List.{AllByRecursion, filter_map, flat_map}
+use Rattle.std.specs.Option.{option_map_or}
 use Rattle.std.proofs.lemmas.List.{length-drop, length-map}
 use Rattle.std.proofs.lemmas.Option.{slice_get_within}
 use Rattle.std.proofs.lemmas.List.Elements.{recursion_from_All}
@@ -19,11 +19,12 @@ use Rattle.sk_def.specs.declared.def.Def.{Def}
 use Rattle.sk_def.specs.declared.def.Hook.{Hook}
 use Rattle.sk_def.specs.declared.sorts.VarSort.{VarSort}
 use Rattle.sk_def.specs.declared.sorts.VarSort.TheVariants as variable
+use Rattle.sk_def.specs.Fits.{ListsAreShort}
 use Rattle.sk_def.specs.Signatures.{parameters, results}
 use Rattle.sk_def.specs.Layout.{BonesFit, branch, branch_places, first_of_branch, after_branches}
-use Rattle.sk_def.specs.Sorts.{Sorts, sort_of, define, HaveSorts, AreNew, FilterPasses, HookPasses, MergePasses, outputs_of, after_filter, after_hook, after_merge}
+use Rattle.sk_def.specs.Sorts.{Sorts, sort_of, define, HaveSorts, FilterPasses, HookPasses, MergePasses, outputs_of, after_filter, after_hook, after_merge}
 use Rattle.sk_walk.specs.Sorted.{Sorted, SortedBranches}
-use Rattle.sk_walk.proofs.Checks.{BonesFit-filter, BonesFit-hook, BranchBoneFits, BonesFit-either, Sorted-filter, Sorted-nothing, Sorted-hook, BranchBonePasses, Sorted-either, BranchPasses, Sorted-branch, Sorted-none}
+use Rattle.sk_walk.proofs.Checks.{BonesFit-filter, BonesFit-hook, BonesFit-either, Sorted-filter, Sorted-nothing, Sorted-hook, Sorted-either, Sorted-branch, Sorted-none}
 use Rattle.sk_sort.specs.DefinedBefore.{sorts_after}
 use Rattle.sk_sort.proofs.Walked.{shorter-drop, shorter-branch}
 use Rattle.sk_term.specs.declared.node.TermNode.{TermNode}
@@ -35,9 +36,8 @@ use Rattle.sk_constr.specs.declared.line.KeyLines.{KeyLines}
 use Rattle.sk_constr.specs.Operands.{PlaceEnv, places, operands_at}
 use Rattle.sk_constr.specs.Positions.{flow_sort, exported_sorts, sorts_at_ends, branch_sorts, positions_of}
 use Rattle.sk_constr.specs.Lines.{env_after, last_position, line_at, lines_of}
-use Rattle.sk_constr.specs.Fits.{OperandsFit, ValuesFit, IsCalled, FilterFits, CallFits, JoinFits, LineFits, BranchIsNarrow}
-use Rattle.sk_constr.proofs.EnvFits.{Has, EnvFits, IsArgSort, parameters_are_args, flows_are_args, map_flows, operands_fit, counted, target_there, gain_fits}
-use Rattle.sk_constr.proofs.FlowSorts.{flows_stay}
+use Rattle.sk_constr.specs.Fits.{ValuesFit, IsCalled, FilterFits, JoinFits, LineFits}
+use Rattle.sk_constr.proofs.EnvFits.{Has, EnvFits, parameters_are_args, flows_are_args, map_flows, operands_fit, counted, target_there, gain_fits}
 use Rattle.sk_constr.proofs.NewFlows.{IsFlowSort, IfThere, results_flow, adds_flows, exports_are_flows}
 
 -- sorts of values alone
@@ -343,7 +343,7 @@ module _ (d : Def) (nodes : List TermNode) (names : ℕ) (keys : List KeyLines) 
   ends_sorted : (n first : ℕ) (g : Sorts) (counts : List ℕ) (bones : List Bone) → length bones ≤ n → (ks : List ℕ) (ends : List Sorts) → SortedBranches d own first counts bones ks g ends → ends ≡ map (λ k. sorts_after d n g (branch counts k bones)) ks
   ends_sorted n first g counts bones l ks ends z = ends_of n first g counts bones (λ k e y. sorts_are n (first_of_branch first counts k) g e (branch counts k bones) (shorter-branch n k counts bones l) y) ks ends z
 
-  pub fine : (n first from : ℕ) (g h : Sorts) (env : PlaceEnv) (bones : List Bone) (nesting : ℕ) → length bones ≤ n → BonesFit hooks vars nesting bones → AllByRecursion BranchIsNarrow bones → Sorted d own first bones g h → Fits g env →
+  pub fine : (n first from : ℕ) (g h : Sorts) (env : PlaceEnv) (bones : List Bone) (nesting : ℕ) → length bones ≤ n → BonesFit hooks vars nesting bones → AllByRecursion ListsAreShort bones → Sorted d own first bones g h → Fits g env →
       Stands key.positions first (positions_of d n g bones) → from < length key.positions → Fine n first from g h env bones
   fine n first from g h env [] nesting l f w s e st there = let same = Sorted-nothing d own s in record { lines = tt; last_there = there; ends_fit = subst (λ k. Fits k env) same e }
   fine zero first from g h env (b ∷ bones) nesting l f w s e st there = absurd (omega (arith, l))
@@ -387,7 +387,7 @@ module _ (d : Def) (nodes : List TermNode) (names : ℕ) (keys : List KeyLines) 
       let st2 = subst (λ k. Stands key.positions k (inner ++ later)) start (stands_next key.positions first (sorts_at_ends exports (branch_sorts d n g counts rest)) (inner ++ later) st) in
       let flows = exported_flow n first g counts exports rest p.ends one p.merges in
       let br = branches_fine n first from g env counts exports rest p.merges.exported
-      (λ k lt z sorted stands. fine n (first_of_branch first counts k) from g z env (branch counts k rest) b.inner (shorter-branch n k counts rest short) (b.branches k lt) (each_take BranchIsNarrow (slice_index counts k) (drop (sum (take k counts)) rest) (each_drop BranchIsNarrow (sum (take k counts)) rest w.1)) sorted e stands there)
+      (λ k lt z sorted stands. fine n (first_of_branch first counts k) from g z env (branch counts k rest) b.inner (shorter-branch n k counts rest short) (b.branches k lt) (each_take ListsAreShort (slice_index counts k) (drop (sum (take k counts)) rest) (each_drop ListsAreShort (sum (take k counts)) rest w.1)) sorted e stands there)
       (λ k lt. many_positions d hooks vars n (branch counts k rest) g b.inner (shorter-branch n k counts rest short) (b.branches k lt))
       (λ z env3 fits have. join_fits first z env3 exports p.merges.exported fits w.0 have flows at)
       b.within counts 0 p.ends later refl (omega arith) p.branches (recursion_from_All (λ z. HaveSorts z exports p.merges.exported) p.ends p.merges.ends_agree) st2 in
@@ -395,7 +395,7 @@ module _ (d : Def) (nodes : List TermNode) (names : ℕ) (keys : List KeyLines) 
       let fits2 : Fits (after_merge g exports p.ends) env2 =
       subst (λ z. Fits z env2) (sym (merged_is n first g counts exports rest p.ends one p.merges))
       (gain_fits d nodes names key.positions g env first exports (filter_map flow_sort p.merges.exported) e at (exports_many n first g counts exports rest p.ends one p.merges)) in
-      let r = fine n (first + 1 + sum counts) first (after_merge g exports p.ends) h env2 (after_branches counts rest) b.outer (shorter-drop n (sum counts) rest short) b.later (each_drop BranchIsNarrow (sum counts) rest w.1) p.later fits2
+      let r = fine n (first + 1 + sum counts) first (after_merge g exports p.ends) h env2 (after_branches counts rest) b.outer (shorter-drop n (sum counts) rest short) b.later (each_drop ListsAreShort (sum counts) rest w.1) p.later fits2
       (subst (λ es. Stands key.positions (first + 1 + sum counts) (positions_of d n (after_merge g exports es) (after_branches counts rest))) (sym ends) br.after)
       (slice_get_within key.positions first (filter_map flow_sort p.merges.exported) at) in
       record {

@@ -1,5 +1,5 @@
 -- The list of constraints of a program of a well-sorted definition fits.
-use Rattle.std.proofs.Common.{◌≡◌, ℕ, zero, suc, ◌+◌, ◌<◌, ◌≤◌, ◌&&◌, Bool, true, false, cond, List, [], ◌∷◌, ◌++◌, map, length, Option, Some, None, refl, sym, ◌∙◌, ap, subst, arith, eqb, inl, inr}
+use Rattle.std.proofs.Common.{◌≡◌, ℕ, zero, suc, ◌+◌, ◌≤◌, ◌&&◌, Bool, true, false, cond, List, [], ◌∷◌, ◌++◌, map, length, Option, Some, None, refl, sym, ◌∙◌, ap, subst, arith, eqb, inl, inr}
 use Rattle.std.specs.Prelude.{slice_get, find, All, nat_lt}
 use Rattle.std.specs.List.{AllByRecursion, AllZip, filter, flat_map, enumerate_from}
 use Rattle.std.specs.Option.{option_map, option_map_or, option_and_then}
@@ -7,14 +7,13 @@ use Rattle.std.proofs.lemmas.Bool.{and_parts, and_from, eqb-true, eq-eqb, cases_
 use Rattle.std.proofs.lemmas.List.{append-nil}
 use Rattle.std.proofs.lemmas.Option.{slice_get_within, same_Some}
 use Rattle.std.proofs.lemmas.List.Elements.{recursion_from_All}
-use Rattle.sk_base.specs.declared.flow.FlowSort.{FlowSort}
 use Rattle.sk_def.specs.declared.ids.HookId.{HookId}
 use Rattle.sk_def.specs.declared.ids.SortId.{SortId}
 use Rattle.sk_def.specs.declared.def.Def.{Def}
 use Rattle.sk_def.specs.declared.def.Rule.{Rule}
 use Rattle.sk_def.specs.declared.def.Hook.{Hook}
 use Rattle.sk_def.specs.declared.def.Con.{Con}
-use Rattle.sk_def.specs.Fits.{HookFits}
+use Rattle.sk_def.specs.Fits.{HookFits, ListsAreShort, RuleIsShort}
 use Rattle.sk_def.specs.Rules.{rule_of}
 use Rattle.sk_sort.specs.Definition.{DefinitionIsSorted}
 use Rattle.sk_sort.specs.Rules.{header_sorts}
@@ -22,6 +21,7 @@ use Rattle.sk_term.specs.declared.node.TermNode.{TermNode}
 use Rattle.sk_term.specs.Program.{Program, IsProgramOf, IsSortOfPoint, ChildrenFit, children_of_point}
 use Rattle.sk_term.specs.Terms.{takes_node, sort_of_node, arguments_of, keys}
 use Rattle.sk_term.proofs.Entries.{entries_fit}
+use Rattle.sk_term.proofs.Keys.{takes_is}
 use Rattle.sk_table.specs.Fits.{CoverFits}
 use Rattle.sk_table.specs.Tables.{has_sort_at}
 use Rattle.sk_table.specs.declared.triple.Cover.{Cover}
@@ -30,11 +30,10 @@ use Rattle.sk_constr.specs.declared.constraint_list.ConstraintList.{ConstraintLi
 use Rattle.sk_constr.specs.Positions.{positions_of}
 use Rattle.sk_constr.specs.Lines.{env_after, lines_of}
 use Rattle.sk_constr.specs.Keys.{first_env, AreConstraints, RuleOfKey, key_by_rule, lines_of_key}
-use Rattle.sk_constr.specs.Fits.{is_lines_of, IsCalled, LineFits, LinesFit, BranchIsNarrow, CoverLineFits, CoverLinesFit, BranchesAreNarrow, ConstraintsFit}
+use Rattle.sk_constr.specs.Fits.{is_lines_of, IsCalled, LineFits, LinesFit, CoverLineFits, CoverLinesFit, ConstraintsFit}
 use Rattle.sk_constr.proofs.EnvFits.{start_fits}
 use Rattle.sk_constr.proofs.LinesFit.{Stands, fine, values_fit}
-use Rattle.sk_constr.proofs.KeyTurns.{takes_is}
-use Rattle.sk_constr.proofs.RulesFound.{all_at, Takes, key_parts, rule_of_parts, has_rule}
+use Rattle.sk_constr.proofs.RulesFound.{all_at, Takes, key_parts, rule_of_parts}
 
 -- a key of a program has a node and a hook that takes it
 record IsKeyOf (d : Def) (nodes : List TermNode) (k : HookId × ℕ) : Type 0 where
@@ -243,8 +242,8 @@ module _ (d : Def) (program : Program) (sorted : DefinitionIsSorted d) (is_progr
   few_flows id h e = let f = all_at (HookFits (length d.sorts)) d.hooks id.0 h sorted.well_sorted.fits.hooks_fit e in (omega (arith, f.few_inputs), omega (arith, f.few_outputs))
 
   -- the lines of a key fit
-  lines_fit : BranchesAreNarrow d → (k : HookId × ℕ) (key : KeyLines) → Made d program.nodes k key → LinesFit program.names list key
-  lines_fit narrow k key m = subst (LinesFit program.names list) (sym m.is) (by_rule (key_by_rule d k.0 k.1 m.of.node m.rule m.hook m.con) refl)
+  lines_fit : (k : HookId × ℕ) (key : KeyLines) → Made d program.nodes k key → LinesFit program.names list key
+  lines_fit k key m = subst (LinesFit program.names list) (sym m.is) (by_rule (key_by_rule d k.0 k.1 m.of.node m.rule m.hook m.con) refl)
     where
       by_rule : (made : KeyLines) → made ≡ key_by_rule d k.0 k.1 m.of.node m.rule m.hook m.con → LinesFit program.names list (key_by_rule d k.0 k.1 m.of.node m.rule m.hook m.con)
       by_rule made e =
@@ -258,9 +257,10 @@ module _ (d : Def) (program : Program) (sorted : DefinitionIsSorted d) (is_progr
           (subst (λ l. ChildrenFit d program.nodes program.names l (arguments_of d m.of.node.con)) entries (entries_fit d program k.1 m.of.node is_program m.of.node_is)) in
           let start = start_fits d program.nodes program.names key.positions m.rule m.hook m.con m.of.node children refl m.of.inputs_counted in
           let stands : Stands key.positions 1 (positions_of d size (header_sorts m.rule m.hook m.con) m.rule.bones) = record { rest = []; is = sym (append-nil (positions_of d size (header_sorts m.rule m.hook m.con) m.rule.bones)) } in
-          let bones_narrow = recursion_from_All BranchIsNarrow m.rule.bones (all_at (λ (rule : Rule). All BranchIsNarrow rule.bones) d.rules m.of.place m.rule narrow m.of.stands) in
+          let short : RuleIsShort m.rule = all_at RuleIsShort d.rules m.of.place m.rule sorted.well_sorted.fits.rules_short m.of.stands in
+          let lists_short = recursion_from_All ListsAreShort m.rule.bones short.lists_short in
           let whole = fine d program.nodes program.names list key m.con.sort k.1 (length d.hooks) (length m.rule.vars) own called_there (λ id h declared. (few_flows id h declared).0)
-          size 1 0 (header_sorts m.rule m.hook m.con) m.of.after (first_env m.rule m.of.node) m.rule.bones 8 (omega arith) m.of.bones_fit bones_narrow m.of.bones_sorted start stands (slice_get_within key.positions 0 m.hook.inputs refl) in
+          size 1 0 (header_sorts m.rule m.hook m.con) m.of.after (first_env m.rule m.of.node) m.rule.bones 8 (omega arith) m.of.bones_fit lists_short m.of.bones_sorted start stands (slice_get_within key.positions 0 m.hook.inputs refl) in
           each_append (LineFits program.names list key) (lines_of k.1 size 1 0 (first_env m.rule m.of.node) m.rule.bones) _ whole.lines (
             record {
               from_there = whole.last_there;
@@ -270,14 +270,14 @@ module _ (d : Def) (program : Program) (sorted : DefinitionIsSorted d) (is_progr
             tt,
           )
 
-  all_lines_fit : BranchesAreNarrow d → AllByRecursion (LinesFit program.names list) list
-  all_lines_fit narrow = go (keys d program.nodes) list all_made
+  all_lines_fit : AllByRecursion (LinesFit program.names list) list
+  all_lines_fit = go (keys d program.nodes) list all_made
     where
       go : (ks : List (HookId × ℕ)) (ls : List KeyLines) → AllZip (Made d program.nodes) ks ls → AllByRecursion (LinesFit program.names list) ls
       go [] [] z = tt
       go [] (l ∷ ls) z = absurd z
       go (k ∷ ks) [] z = absurd z
-      go (k ∷ ks) (l ∷ ls) z = (lines_fit narrow k l z.0, go ks ls z.1)
+      go (k ∷ ks) (l ∷ ls) z = (lines_fit k l z.0, go ks ls z.1)
 
   -- the point of a cover line has its hook's sort
   sort_at_point : (sort : SortId) (p : ℕ) → has_sort_at program sort p ≡ true → IsSortOfPoint d program.nodes p sort
@@ -304,10 +304,10 @@ module _ (d : Def) (program : Program) (sorted : DefinitionIsSorted d) (is_progr
   covers_fit (cover ∷ covers) h = (cover_fits cover h.0, covers_fit covers h.1)
 
 pub constraints_fit : {D : Type 0} (d : Def) (program : Program) (covers : List (Cover D)) (list : ConstraintList D) → DefinitionIsSorted d → IsProgramOf d program → AreConstraints d program covers list →
-    BranchesAreNarrow d → All (CoverFits d program program.names) covers → ConstraintsFit list
-constraints_fit d program covers list sorted is_program are narrow fit =
+    All (CoverFits d program program.names) covers → ConstraintsFit list
+constraints_fit d program covers list sorted is_program are fit =
     record {
       covers_fit = subst (λ cs. CoverLinesFit list.names list.keys cs) (sym are.covers_are)
           (subst (λ n. CoverLinesFit n list.keys covers) (sym are.names_are) (covers_fit d program sorted is_program list.keys are.keys_are covers (recursion_from_All (CoverFits d program program.names) covers fit)));
-      lines_fit = subst (λ n. AllByRecursion (LinesFit n list.keys) list.keys) (sym are.names_are) (all_lines_fit d program sorted is_program list.keys are.keys_are narrow);
+      lines_fit = subst (λ n. AllByRecursion (LinesFit n list.keys) list.keys) (sym are.names_are) (all_lines_fit d program sorted is_program list.keys are.keys_are);
     }

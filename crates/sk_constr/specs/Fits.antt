@@ -1,16 +1,12 @@
 -- Constraints whose lines fit: each position and key that a line names is there, its names lie below the number of names, and
 -- what it asks for has the sorts of where it asks for it.
-use Rattle.std.specs.Prelude.{◌≡◌, ℕ, ◌==◌, ◌<◌, ◌≤◌, Bool, true, ◌&&◌, List, map, length, Option, Some, slice_get, find, All}
+use Rattle.std.specs.Prelude.{◌≡◌, ℕ, ◌==◌, ◌<◌, ◌≤◌, Bool, true, ◌&&◌, List, map, length, Option, Some, slice_get, find}
 use Rattle.std.specs.List.{AllZip, AllByRecursion, filter_map}
 use Rattle.std.specs.Option.{option_and_then}
 use Rattle.sk_base.specs.declared.flow.FlowSort.{FlowSort}
 use Rattle.sk_def.specs.declared.ids.HookId.{HookId}
 use Rattle.sk_def.specs.declared.filter.Filter.{Filter}
 use Rattle.sk_def.specs.declared.sorts.VarSort.{VarSort}
-use Rattle.sk_def.specs.declared.bone.Bone.{Bone}
-use Rattle.sk_def.specs.declared.bone.Bone.TheVariants.{Either}
-use Rattle.sk_def.specs.declared.def.Rule.{Rule}
-use Rattle.sk_def.specs.declared.def.Def.{Def}
 use Rattle.sk_def.specs.Signatures.{parameters, results}
 use Rattle.sk_lattice.specs.Shapes.{has_sorts}
 use Rattle.sk_table.specs.declared.triple.Cover.{Cover}
@@ -83,14 +79,6 @@ pub record LineFits (names : ℕ) (keys : List KeyLines) (key : KeyLines) (line 
 
 abbrev pub LinesFit : ℕ → List KeyLines → KeyLines → Type 0
 LinesFit names keys key = AllByRecursion (LineFits names keys key) key.lines
-
--- a branch bone exports no more than a tuple has room for; so do all of a definition
-abbrev pub BranchIsNarrow : Bone → Type 0
-BranchIsNarrow (Either counts exports) = length exports ≤ 8
-BranchIsNarrow bone = Unit {0}
-
-abbrev pub BranchesAreNarrow : Def → Type 0
-BranchesAreNarrow d = All (λ (rule : Rule). All BranchIsNarrow rule.bones) d.rules
 
 -- a cover line is of a key, and has the sorts of its inputs
 pub record CoverLineFits {D : Type 0} (names : ℕ) (keys : List KeyLines) (cover : Cover D) : Type 0 where

@@ -1,6 +1,5 @@
 -- The list of constraints of a program.
 use Rattle.std.specs.Prelude.{◌≡◌, ℕ, ◌≤◌, List, [], ◌∷◌, ◌++◌, length, map, Option, Some, slice_get}
-use Rattle.std.specs.List.{filter, enumerate_from}
 use Rattle.std.specs.Option.{option_map, option_and_then}
 use Rattle.sk_def.specs.declared.ids.HookId.{HookId}
 use Rattle.sk_def.specs.declared.def.Def.{Def}
@@ -15,7 +14,7 @@ use Rattle.sk_walk.specs.Sorted.{Sorted}
 use Rattle.sk_sort.specs.Rules.{header_sorts}
 use Rattle.sk_term.specs.declared.node.TermNode.{TermNode}
 use Rattle.sk_term.specs.Program.{Program}
-use Rattle.sk_term.specs.Terms.{takes_node, keys}
+use Rattle.sk_term.specs.Terms.{keys}
 use Rattle.sk_deriv.specs.Env.{start_of}
 use Rattle.sk_table.specs.declared.triple.Cover.{Cover}
 use Rattle.sk_constr.specs.declared.line.Part.{Part}
@@ -61,10 +60,6 @@ pub record AreConstraints {D : Type 0} (d : Def) (program : Program) (covers : L
   pub names_are : list.names ≡ program.names
   pub covers_are : list.covers ≡ covers
   pub keys_are : map Some list.keys ≡ map (lines_of_key d program.nodes) (keys d program.nodes)
-
--- The hooks from this place on that evaluate a point's node, as keys.
-abbrev pub keys_at : Def → TermNode → ℕ → ℕ → List Hook → List (HookId × ℕ)
-keys_at d node point place hooks = map (λ h. (record { 0 = h.0 }, point)) (filter (λ h. takes_node d node h.1) (enumerate_from place hooks))
 
 -- A key has a rule of the definition, with what a walk of its bones asks for.
 pub record RuleOfKey (d : Def) (nodes : List TermNode) (id : HookId) (point : ℕ) (rule : Rule) (hook : Hook) (con : Con) : Type 0 where

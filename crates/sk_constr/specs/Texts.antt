@@ -5,7 +5,7 @@ use Rattle.std.specs.List.{flat_map, join_by}
 use Rattle.sk_def.specs.declared.ids.HookId.{HookId}
 use Rattle.sk_def.specs.declared.def.Def.{Def}
 use Rattle.sk_def.specs.Filters.{filter_word}
-use Rattle.sk_deriv.specs.Lines.{hook_name}
+use Rattle.sk_def.specs.Named.{hook_name}
 use Rattle.sk_lattice.specs.Domain.{Domain}
 use Rattle.sk_lattice.specs.DomainTexts.{DomainTexts}
 use Rattle.sk_lattice.specs.Texts.{tuple_text}

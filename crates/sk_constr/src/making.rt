@@ -3,11 +3,10 @@ ghost use Rattle.std.specs.Prelude.{◌≡◌, ◌<◌, ◌++◌, length, map, s
 ghost use Rattle.sk_def.specs.declared.def.Hook.{Hook};
 ghost use Rattle.sk_term.specs.declared.node.TermNode.{TermNode};
 ghost use Rattle.sk_term.specs.Program.{IsProgramOf};
-ghost use Rattle.sk_term.specs.Terms.{takes_node, keys};
+ghost use Rattle.sk_term.specs.Terms.{takes_node, keys, keys_at};
 ghost use Rattle.sk_constr.specs.Worlds.{closed};
 ghost use Rattle.sk_table.specs.Fits.{CoverFits};
-ghost use Rattle.sk_constr.specs.Fits.{BranchesAreNarrow};
-ghost use Rattle.sk_constr.specs.Keys.{AreConstraints, lines_of_key, keys_at};
+ghost use Rattle.sk_constr.specs.Keys.{AreConstraints, lines_of_key};
 
 use crate::constraint_list::ConstraintList;
 use crate::env::operands_at;
@@ -132,8 +131,8 @@ fn copy_covers<D: NumDom>(alloc: Global, covers: &Covers<D>) -> Result<Covers<D>
 }
 
 /// The constraints of a program of the definition and of cover lines: for every key, by point and then by hook, the
-/// lines of its rule. The cover lines are calls of keys of the program, with stores over its names, and a branch bone
-/// exports at most 8 variables. Fails only where memory is refused.
+/// lines of its rule. The cover lines are calls of keys of the program, with stores over its names. Fails only where
+/// memory is refused.
 pub fn generate<D: NumDom>(
     alloc: Global,
     checked: &Checked,
@@ -141,7 +140,6 @@ pub fn generate<D: NumDom>(
     covers: &Covers<D>,
 ) -> Result<Constraints<D>, NoMemory>
     requires program { IsProgramOf checked.now arena.now }
-    requires narrow { BranchesAreNarrow checked.now }
     requires fit { All (CoverFits checked.now arena.now arena.now.names) covers.now }
     ensures { IfOk result (AreConstraints checked.now arena.now covers.now) }
 {

@@ -1,44 +1,24 @@
 //! The text of the list of constraints.
-ghost use Rattle.std.specs.Prelude.{◌≡◌, ◌++◌, decimal, IfOk, OnOk};
+ghost use Rattle.std.specs.Prelude.{◌≡◌, ◌++◌, IfOk, OnOk};
 ghost use Rattle.std.specs.List.{flat_map};
-ghost use Rattle.sk_deriv.specs.Lines.{hook_name};
 ghost use Rattle.sk_constr.specs.Texts.{operand_text, operands_text, key_name, part_text, line_text, key_text, cover_text, constraints_text};
 
 use crate::{Constraints, KeyLines, Line, Operand, Part};
-use itoa::Buffer;
 use sk_base::{Names, NoMemory};
 use sk_def::{Def, HookId, filter_word};
 use sk_lattice::NumDom;
 use sk_table::Cover;
-use sk_value::{put_between, put_bytes, put_number};
+use sk_value::{put_between, put_bytes, put_count, put_number};
 use std::alloc::Global;
-
-/// Appends a count.
-fn put_count(out: &mut Vec<u8>, count: u16) -> Result<(), NoMemory>
-    ensures { OnOk result (out.new.items ≡ out.old.items ++ decimal count) }
-{
-    let mut buffer = Buffer::new();
-    put_bytes(out, buffer.format(count).as_bytes())
-}
-
-/// The name of a hook of the definition.
-fn hook_name(def: &Def, hook: HookId) -> &[u8]
-    ensures { result.now ≡ hook_name def.now hook }
-{
-    match def.hooks.as_slice().get(usize::from(hook.0)) {
-        Some(found) => found.name.as_bytes(),
-        None => b"",
-    }
-}
 
 /// A hook with its point.
 fn key_name(alloc: Global, def: &Def, hook: HookId, point: u16) -> Result<Vec<u8>, NoMemory>
     ensures { IfOk result (λ text. text.items ≡ key_name def.now hook point) }
 {
     let mut text = Vec::new(alloc);
-    put_bytes(&mut text, hook_name(def, hook))?;
+    put_bytes(&mut text, def.hook_name(hook))?;
     put_bytes(&mut text, b" ")?;
-    put_count(&mut text, point)?;
+    put_count(&mut text, usize::from(point))?;
     Ok(text)
 }
 
@@ -55,9 +35,9 @@ fn operand_text(alloc: Global, names: &Names, operand: Operand) -> Result<Vec<u8
             }
         }
         Operand::At { position, entry } => {
-            put_count(&mut text, u16::from(position))?;
+            put_count(&mut text, usize::from(position))?;
             put_bytes(&mut text, b".")?;
-            put_count(&mut text, u16::from(entry))?;
+            put_count(&mut text, usize::from(entry))?;
         }
     }
     Ok(text)
@@ -98,7 +78,7 @@ fn part_text(alloc: Global, def: &Def, names: &Names, part: &Part) -> Result<Vec
     let mut text = Vec::new(alloc);
     match part {
         Part::Filter { to, filter, args } => {
-            put_count(&mut text, u16::from(*to))?;
+            put_count(&mut text, usize::from(*to))?;
             put_bytes(&mut text, b" filter ")?;
             put_bytes(&mut text, filter_word(*filter))?;
             put_bytes(&mut text, b" ")?;
@@ -110,14 +90,14 @@ fn part_text(alloc: Global, def: &Def, names: &Names, part: &Part) -> Result<Vec
             point,
             args,
         } => {
-            put_count(&mut text, u16::from(*to))?;
+            put_count(&mut text, usize::from(*to))?;
             put_bytes(&mut text, b" call ")?;
             put_bytes(&mut text, key_name(alloc, def, *hook, *point)?.as_slice())?;
             put_bytes(&mut text, b" ")?;
             put_operands(alloc, names, args.as_slice(), &mut text)?;
         }
         Part::Join { to, vars } => {
-            put_count(&mut text, u16::from(*to))?;
+            put_count(&mut text, usize::from(*to))?;
             put_bytes(&mut text, b" join ")?;
             put_operands(alloc, names, vars.as_slice(), &mut text)?;
         }
@@ -134,7 +114,7 @@ fn line_text(alloc: Global, def: &Def, names: &Names, line: &Line) -> Result<Vec
     ensures { IfOk result (λ text. text.items ≡ line_text def.now names.now line.now) }
 {
     let mut text = Vec::new(alloc);
-    put_count(&mut text, u16::from(line.from))?;
+    put_count(&mut text, usize::from(line.from))?;
     put_bytes(&mut text, b" -> ")?;
     put_bytes(
         &mut text,

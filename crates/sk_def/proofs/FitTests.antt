@@ -18,7 +18,7 @@ use Rattle.sk_def.specs.declared.bone.Target.TheVariants.{Own, Sub}
 use Rattle.sk_def.specs.declared.bone.Bone.{Bone}
 use Rattle.sk_def.specs.declared.bone.Bone.TheVariants.{Apply, Call, Either}
 use Rattle.sk_def.specs.Layout.{AreBelow, TargetIsBelow, BonesFit, BranchesFit, no_bone, filter_bone, hook_bone, branch_bone, no_branch, one_branch, branch, branch_places, after_branches}
-use Rattle.sk_def.specs.Fits.{ArgumentFits, ConstructorFits, HookFits, RuleFits, DefinitionFits, are_below, target_is_below, bones_fit, argument_fits, constructor_fits, hook_fits, rule_fits, definition_fits}
+use Rattle.sk_def.specs.Fits.{ArgumentFits, ConstructorFits, HookFits, RuleFits, ListsAreShort, HasFewBranches, RuleIsShort, DefinitionFits, are_below, target_is_below, bones_fit, argument_fits, constructor_fits, hook_fits, rule_fits, lists_are_short, has_few_branches, rule_is_short, definition_fits}
 use Rattle.sk_def.proofs.Layouts.{branch_at, branch-take}
 
 both : (a b : Bool) → (a && b) ≡ true → (a ≡ true) × (b ≡ true)
@@ -249,6 +249,60 @@ module _ (d : Def) (rule : Rule) where
       (le-leb (length rule.bones) 64 f.few_bones))
       (fit_test (length rule.bones) 8 rule.bones (omega arith) f.bones_fit)
 
+short_lists : (bone : Bone) → lists_are_short bone ≡ true → ListsAreShort bone
+short_lists (Apply filter args outs) h =
+    let a = both (nat_le (length args) 8) (nat_le (length outs) 8) h in (leb-true (length args) 8 a.0, leb-true (length outs) 8 a.1)
+short_lists (Call id args t outs) h =
+    let a = both (nat_le (length args) 8) (nat_le (length outs) 8) h in (leb-true (length args) 8 a.0, leb-true (length outs) 8 a.1)
+short_lists (Either counts exports) h = leb-true (length exports) 8 h
+
+short_lists_test : (bone : Bone) → ListsAreShort bone → lists_are_short bone ≡ true
+short_lists_test (Apply filter args outs) f = joined (nat_le (length args) 8) (nat_le (length outs) 8) (le-leb (length args) 8 f.0) (le-leb (length outs) 8 f.1)
+short_lists_test (Call id args t outs) f = joined (nat_le (length args) 8) (nat_le (length outs) 8) (le-leb (length args) 8 f.0) (le-leb (length outs) 8 f.1)
+short_lists_test (Either counts exports) f = le-leb (length exports) 8 f
+
+branches_few : (bone : Bone) → has_few_branches bone ≡ true → HasFewBranches bone
+branches_few (Apply filter args outs) h = tt
+branches_few (Call id args t outs) h = tt
+branches_few (Either counts exports) h = leb-true (length counts) 8 h
+
+branches_few_test : (bone : Bone) → HasFewBranches bone → has_few_branches bone ≡ true
+branches_few_test (Apply filter args outs) f = refl
+branches_few_test (Call id args t outs) f = refl
+branches_few_test (Either counts exports) f = le-leb (length counts) 8 f
+
+rule_short : (rule : Rule) → rule_is_short rule ≡ true → RuleIsShort rule
+rule_short rule h =
+    let t1 = nat_le (length rule.terms) 8 in
+    let t2 = nat_le (length rule.inputs) 8 in
+    let t3 = nat_le (length rule.outputs) 8 in
+    let t4 = list_all lists_are_short rule.bones in
+    let a = both (t1 && t2 && t3 && t4) (list_all has_few_branches rule.bones) h in
+    let b = both (t1 && t2 && t3) t4 a.0 in
+    let c = both (t1 && t2) t3 b.0 in
+    let e = both t1 t2 c.0 in
+    record {
+      few_terms = leb-true (length rule.terms) 8 e.0;
+      few_inputs = leb-true (length rule.inputs) 8 e.1;
+      few_outputs = leb-true (length rule.outputs) 8 c.1;
+      lists_short = all_pass lists_are_short ListsAreShort short_lists rule.bones b.1;
+      few_branches = all_pass has_few_branches HasFewBranches branches_few rule.bones a.1;
+    }
+
+rule_short_test : (rule : Rule) → RuleIsShort rule → rule_is_short rule ≡ true
+rule_short_test rule f =
+    let t1 = nat_le (length rule.terms) 8 in
+    let t2 = nat_le (length rule.inputs) 8 in
+    let t3 = nat_le (length rule.outputs) 8 in
+    let t4 = list_all lists_are_short rule.bones in
+    joined (t1 && t2 && t3 && t4) (list_all has_few_branches rule.bones)
+    (joined (t1 && t2 && t3) t4
+    (joined (t1 && t2) t3
+    (joined t1 t2 (le-leb (length rule.terms) 8 f.few_terms) (le-leb (length rule.inputs) 8 f.few_inputs))
+    (le-leb (length rule.outputs) 8 f.few_outputs))
+    (pass_all lists_are_short ListsAreShort short_lists_test rule.bones f.lists_short))
+    (pass_all has_few_branches HasFewBranches branches_few_test rule.bones f.few_branches)
+
 pub definition_fit : (d : Def) → definition_fits d ≡ true → DefinitionFits d
 definition_fit d h =
     let n = length d.sorts in
@@ -257,18 +311,21 @@ definition_fit d h =
     let t3 = nat_le (length d.hooks) 8 in
     let t4 = list_all (constructor_fits n) d.cons in
     let t5 = list_all (hook_fits n) d.hooks in
-    let a = both (t1 && t2 && t3 && t4 && t5) (list_all (rule_fits d) d.rules) h in
-    let b = both (t1 && t2 && t3 && t4) t5 a.0 in
-    let c = both (t1 && t2 && t3) t4 b.0 in
-    let e = both (t1 && t2) t3 c.0 in
-    let f = both t1 t2 e.0 in
+    let t6 = list_all (rule_fits d) d.rules in
+    let a = both (t1 && t2 && t3 && t4 && t5 && t6) (list_all rule_is_short d.rules) h in
+    let b = both (t1 && t2 && t3 && t4 && t5) t6 a.0 in
+    let c = both (t1 && t2 && t3 && t4) t5 b.0 in
+    let e = both (t1 && t2 && t3) t4 c.0 in
+    let f = both (t1 && t2) t3 e.0 in
+    let g = both t1 t2 f.0 in
     record {
-      few_sorts = leb-true n 16 f.0;
-      few_constructors = leb-true (length d.cons) 128 f.1;
-      few_hooks = leb-true (length d.hooks) 8 e.1;
-      constructors_fit = all_pass (constructor_fits n) (ConstructorFits n) (constructor n) d.cons c.1;
-      hooks_fit = all_pass (hook_fits n) (HookFits n) (hook n) d.hooks b.1;
-      rules_fit = all_pass (rule_fits d) (RuleFits d) (rule_fit d) d.rules a.1;
+      few_sorts = leb-true n 16 g.0;
+      few_constructors = leb-true (length d.cons) 128 g.1;
+      few_hooks = leb-true (length d.hooks) 8 f.1;
+      constructors_fit = all_pass (constructor_fits n) (ConstructorFits n) (constructor n) d.cons e.1;
+      hooks_fit = all_pass (hook_fits n) (HookFits n) (hook n) d.hooks c.1;
+      rules_fit = all_pass (rule_fits d) (RuleFits d) (rule_fit d) d.rules b.1;
+      rules_short = all_pass rule_is_short RuleIsShort rule_short d.rules a.1;
     }
 
 pub definition_test : (d : Def) → DefinitionFits d → definition_fits d ≡ true
@@ -279,7 +336,9 @@ definition_test d f =
     let t3 = nat_le (length d.hooks) 8 in
     let t4 = list_all (constructor_fits n) d.cons in
     let t5 = list_all (hook_fits n) d.hooks in
-    joined (t1 && t2 && t3 && t4 && t5) (list_all (rule_fits d) d.rules)
+    let t6 = list_all (rule_fits d) d.rules in
+    joined (t1 && t2 && t3 && t4 && t5 && t6) (list_all rule_is_short d.rules)
+    (joined (t1 && t2 && t3 && t4 && t5) t6
     (joined (t1 && t2 && t3 && t4) t5
     (joined (t1 && t2 && t3) t4
     (joined (t1 && t2) t3
@@ -287,7 +346,8 @@ definition_test d f =
     (le-leb (length d.hooks) 8 f.few_hooks))
     (pass_all (constructor_fits n) (ConstructorFits n) (constructor_test n) d.cons f.constructors_fit))
     (pass_all (hook_fits n) (HookFits n) (hook_test n) d.hooks f.hooks_fit))
-    (pass_all (rule_fits d) (RuleFits d) (rule_test d) d.rules f.rules_fit)
+    (pass_all (rule_fits d) (RuleFits d) (rule_test d) d.rules f.rules_fit))
+    (pass_all rule_is_short RuleIsShort rule_short_test d.rules f.rules_short)
 
 -- two tests of one fact are one
 pub same_test : {P : Type 0} (a b : Bool) → (IsTrue a ↔ P) → (b ≡ true → P) → (P → b ≡ true) → a ≡ b

@@ -32,7 +32,7 @@ pub record HookFits (sorts : ℕ) (hook : Hook) : Type 0 where
   pub few_inputs : length hook.inputs ≤ 4
   pub few_outputs : length hook.outputs ≤ 4
 
--- the numbers that a rule names exist, its lists are within their limits, and its bones lie as they must,
+-- the numbers that a rule names exist, it has at most 64 variables and 64 bones, and its bones lie as they must,
 -- nested at most 8
 pub record RuleFits (d : Def) (rule : Rule) : Type 0 where
   pub hook_declared : rule.hook.0 < length d.hooks
@@ -44,6 +44,25 @@ pub record RuleFits (d : Def) (rule : Rule) : Type 0 where
   pub few_bones : length rule.bones ≤ 64
   pub bones_fit : BonesFit (length d.hooks) (length rule.vars) 8 rule.bones
 
+-- each list of variables of a bone has at most 8 entries
+abbrev pub ListsAreShort : Bone → Type 0
+ListsAreShort (Apply filter args outs) = (length args ≤ 8) × (length outs ≤ 8)
+ListsAreShort (Call id args target outs) = (length args ≤ 8) × (length outs ≤ 8)
+ListsAreShort (Either counts exports) = length exports ≤ 8
+
+-- a branch bone has at most 8 branches
+abbrev pub HasFewBranches : Bone → Type 0
+HasFewBranches (Either counts exports) = length counts ≤ 8
+HasFewBranches other = Unit {0}
+
+-- each list of variables of a rule and of its bones has at most 8 entries, and its branch bones have at most 8 branches
+pub record RuleIsShort (rule : Rule) : Type 0 where
+  pub few_terms : length rule.terms ≤ 8
+  pub few_inputs : length rule.inputs ≤ 8
+  pub few_outputs : length rule.outputs ≤ 8
+  pub lists_short : All ListsAreShort rule.bones
+  pub few_branches : All HasFewBranches rule.bones
+
 -- a definition is within the limits, and each number in it is of its lists
 pub record DefinitionFits (d : Def) : Type 0 where
   pub few_sorts : length d.sorts ≤ 16
@@ -52,6 +71,7 @@ pub record DefinitionFits (d : Def) : Type 0 where
   pub constructors_fit : All (ConstructorFits (length d.sorts)) d.cons
   pub hooks_fit : All (HookFits (length d.sorts)) d.hooks
   pub rules_fit : All (RuleFits d) d.rules
+  pub rules_short : All RuleIsShort d.rules
 
 -- The same as tests.
 
@@ -93,7 +113,22 @@ rule_fits d rule =
     && are_below (length rule.vars) rule.terms && are_below (length rule.vars) rule.inputs && are_below (length rule.vars) rule.outputs
     && nat_le (length rule.bones) 64 && bones_fit (length d.hooks) (length rule.vars) (length rule.bones) 8 rule.bones
 
+abbrev pub lists_are_short : Bone → Bool
+lists_are_short (Apply filter args outs) = nat_le (length args) 8 && nat_le (length outs) 8
+lists_are_short (Call id args target outs) = nat_le (length args) 8 && nat_le (length outs) 8
+lists_are_short (Either counts exports) = nat_le (length exports) 8
+
+abbrev pub has_few_branches : Bone → Bool
+has_few_branches (Either counts exports) = nat_le (length counts) 8
+has_few_branches other = true
+
+abbrev pub rule_is_short : Rule → Bool
+rule_is_short rule =
+    nat_le (length rule.terms) 8 && nat_le (length rule.inputs) 8 && nat_le (length rule.outputs) 8
+    && list_all lists_are_short rule.bones && list_all has_few_branches rule.bones
+
 abbrev pub definition_fits : Def → Bool
 definition_fits d =
     nat_le (length d.sorts) 16 && nat_le (length d.cons) 128 && nat_le (length d.hooks) 8
     && list_all (constructor_fits (length d.sorts)) d.cons && list_all (hook_fits (length d.sorts)) d.hooks && list_all (rule_fits d) d.rules
+    && list_all rule_is_short d.rules

@@ -1,7 +1,7 @@
 //! Definitions.
 ghost use Rattle.std.specs.Prelude.{◌≡◌, ◌<◌, ◌≤◌, length, IfSome};
 ghost use Rattle.std.specs.Option.{option_copied};
-ghost use Rattle.sk_def.specs.Named.{con_named, hook_named, place_of_con, place_of_hook};
+ghost use Rattle.sk_def.specs.Named.{con_named, hook_name, hook_named, place_of_con, place_of_hook};
 ghost use Rattle.sk_def.specs.Rules.{rule_of};
 
 use crate::{
@@ -95,5 +95,15 @@ impl Def {
     {
         let place = place_of_hook(self.hooks.as_slice(), word)?;
         Some(HookId(place as u8))
+    }
+
+    /// The name of a hook of the definition.
+    pub fn hook_name(&self, hook: HookId) -> &[u8]
+        ensures { result.now ≡ hook_name self.now hook }
+    {
+        match self.hooks.as_slice().get(usize::from(hook.0)) {
+            Some(found) => found.name.as_bytes(),
+            None => b"",
+        }
     }
 }

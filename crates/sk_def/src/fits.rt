@@ -1,10 +1,10 @@
 //! Whether a definition is within the limits, with each number in it one of its lists.
 ghost use Rattle.std.specs.Prelude.{◌≡◌, ◌↔◌, length, IsTrue};
 ghost use Rattle.std.specs.List.{list_all};
-ghost use Rattle.sk_def.specs.Fits.{DefinitionFits, are_below, bones_fit, argument_fits, constructor_fits, hook_fits, rule_fits, definition_fits};
+ghost use Rattle.sk_def.specs.Fits.{DefinitionFits, are_below, bones_fit, argument_fits, constructor_fits, hook_fits, rule_fits, lists_are_short, has_few_branches, rule_is_short, definition_fits};
 
 use crate::layout::bones_fit;
-use crate::{ArgSort, Con, Def, Hook, Rule, Var};
+use crate::{ArgSort, Bone, Con, Def, Hook, Rule, Var};
 
 /// The term sort that an argument names, if it names one, is declared.
 fn argument_fits(sorts: usize, argument: ArgSort) -> bool
@@ -58,7 +58,7 @@ fn rule_bones_fit(hooks: usize, rule: &Rule) -> bool
     bones_fit(hooks, rule.vars.len(), 8, rule.bones.as_slice())
 }
 
-/// The numbers that a rule names exist, its lists are within their limits, and its bones lie as they must.
+/// The numbers that a rule names exist, it has few variables and bones, and its bones lie as they must.
 fn rule_fits(def: &Def, rule: &Rule) -> bool
     ensures { result ≡ rule_fits def.now rule.now }
 {
@@ -78,6 +78,51 @@ fn rule_fits(def: &Def, rule: &Rule) -> bool
         return false;
     }
     rule_bones_fit(def.hooks.len(), rule)
+}
+
+/// Each list of variables of a bone has few entries.
+fn lists_are_short(bone: &Bone) -> bool
+    ensures { result ≡ lists_are_short bone.now }
+{
+    match bone {
+        Bone::Apply { args, outs, .. } => args.len() <= 8 && outs.len() <= 8,
+        Bone::Call { args, outs, .. } => args.len() <= 8 && outs.len() <= 8,
+        Bone::Either { exports, .. } => exports.len() <= 8,
+    }
+}
+
+/// A branch bone has few branches.
+fn has_few_branches(bone: &Bone) -> bool
+    ensures { result ≡ has_few_branches bone.now }
+{
+    match bone {
+        Bone::Either { branches, .. } => branches.len() <= 8,
+        Bone::Apply { .. } | Bone::Call { .. } => true,
+    }
+}
+
+/// The lists of variables of the bones have few entries.
+fn bones_are_short(bones: &[Bone]) -> bool
+    ensures { result ≡ list_all lists_are_short bones.now }
+{
+    bones.iter().all(|bone| lists_are_short(bone))
+}
+
+/// The branch bones have few branches.
+fn branches_are_few(bones: &[Bone]) -> bool
+    ensures { result ≡ list_all has_few_branches bones.now }
+{
+    bones.iter().all(|bone| has_few_branches(bone))
+}
+
+/// The lists of variables of a rule and of its bones have few entries, and its branch bones few branches.
+fn rule_is_short(rule: &Rule) -> bool
+    ensures { result ≡ rule_is_short rule.now }
+{
+    if rule.terms.len() > 8 || rule.inputs.len() > 8 || rule.outputs.len() > 8 {
+        return false;
+    }
+    bones_are_short(rule.bones.as_slice()) && branches_are_few(rule.bones.as_slice())
 }
 
 /// Each constructor fits.
@@ -101,6 +146,13 @@ fn rules_fit(def: &Def) -> bool
     def.rules.as_slice().iter().all(|rule| rule_fits(def, rule))
 }
 
+/// Each rule is short.
+fn rules_are_short(rules: &[Rule]) -> bool
+    ensures { result ≡ list_all rule_is_short rules.now }
+{
+    rules.iter().all(|rule| rule_is_short(rule))
+}
+
 /// All parts of the definition fit.
 fn parts_fit(def: &Def) -> bool
     ensures { result ≡ definition_fits def.now }
@@ -112,7 +164,7 @@ fn parts_fit(def: &Def) -> bool
     if !constructors_fit(sorts, def.cons.as_slice()) || !hooks_fit(sorts, def.hooks.as_slice()) {
         return false;
     }
-    rules_fit(def)
+    rules_fit(def) && rules_are_short(def.rules.as_slice())
 }
 
 /// Whether the definition is within the limits, each number in it is of its lists, and the bones of its

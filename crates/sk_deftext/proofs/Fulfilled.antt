@@ -5,7 +5,7 @@ use Rattle.std.proofs.lemmas.List.{length-map}
 use Rattle.std.proofs.lemmas.List.Elements.{All-nil}
 use Rattle.sk_base.specs.declared.place.Place.{Place}
 use Rattle.sk_lex.specs.Run.{Turn}
-use Rattle.sk_lex.specs.Symbols.{Symbol}
+use Rattle.sk_lex.specs.Symbols.{Symbol, place_in}
 use Rattle.sk_lex.specs.declared.token.Token.{Token}
 use Rattle.sk_lex.proofs.Runs.{whole_keeps}
 use Rattle.sk_def.specs.Fits.{ArgumentFits, ConstructorFits, HookFits, RuleFits}
@@ -13,7 +13,7 @@ use Rattle.sk_def.specs.Layout.{no_bone}
 use Rattle.sk_def.specs.declared.def.Rule.{Rule}
 use Rattle.sk_def.specs.declared.ids.Var.{Var}
 use Rattle.sk_deftext.specs.Met.{Met}
-use Rattle.sk_deftext.specs.Places.{place_in, PlacesFit}
+use Rattle.sk_deftext.specs.Places.{PlacesFit}
 use Rattle.sk_deftext.specs.Reading.{definition_rules, nothing, read_symbols, step, at_symbol}
 use Rattle.sk_deftext.specs.Texts.{source_of}
 use Rattle.sk_deftext.specs.declared.draft.Draft.{Draft}

@@ -5,9 +5,10 @@ use Rattle.std.specs.List.{AllByRecursion}
 use Rattle.std.proofs.lemmas.List.Elements.{All-nil}
 use Rattle.sk_lex.specs.Run.{Turn}
 use Rattle.sk_lex.specs.Symbols.{Symbol}
+use Rattle.sk_def.specs.Fits.{HasFewBranches}
 use Rattle.sk_deftext.specs.Met.{Met}
 use Rattle.sk_deftext.specs.Reading.{nothing, read_symbols, step}
-use Rattle.sk_deftext.specs.Written.{HasFewBranches, IsInOrder}
+use Rattle.sk_deftext.specs.Written.{IsInOrder}
 use Rattle.sk_deftext.specs.declared.draft.Draft.{Draft}
 use Rattle.sk_deftext.specs.declared.expected.Expected.{Expected}
 use Rattle.sk_deftext.specs.declared.expected.Expected.TheVariants.{Skel, Version, Item}

@@ -17,6 +17,7 @@ use Rattle.sk_lex.specs.Symbols.{Symbol, Named, Plain, symbols, word_of, number_
 use Rattle.sk_lex.specs.Tokens.{tokens_of}
 use Rattle.sk_lex.specs.declared.token.Token.{Token}
 use Rattle.sk_def.specs.Filters.{filter_named}
+use Rattle.sk_def.specs.Fits.{ListsAreShort}
 use Rattle.sk_def.specs.Named.{place_of_con, place_of_hook}
 use Rattle.sk_def.specs.declared.ids.SortId.{SortId}
 use Rattle.sk_def.specs.declared.ids.HookId.{HookId}
@@ -38,7 +39,7 @@ use Rattle.sk_deftext.specs.Bodies as spec
 use Rattle.sk_deftext.specs.Bodies.{rule_hook, rule_con, variable, opening_of, bone, target, closing_brace, or_first, or_more, bone_of}
 use Rattle.sk_deftext.specs.Reading as read
 use Rattle.sk_deftext.specs.Reading.{definition_rules, at_symbol, skel, version, item, sort_name, con_name, hook_name, sort_used, argument, input, output, entry, closed, first, more, step, nothing, read_symbols}
-use Rattle.sk_deftext.specs.Written.{IsWord, IsName, AreNames, ListsAreShort, RuleHasNames, HasNames}
+use Rattle.sk_deftext.specs.Written.{IsWord, IsName, AreNames, RuleHasNames, HasNames}
 use Rattle.sk_deftext.specs.declared.draft.Draft.{Draft}
 use Rattle.sk_deftext.specs.declared.draft.OpenBone.{OpenBone}
 use Rattle.sk_deftext.specs.declared.draft.BoneHead.{BoneHead}

@@ -9,6 +9,7 @@ use Rattle.sk_base.specs.Names.{place_of_name, with_name}
 use Rattle.sk_base.specs.declared.flow.FlowSort.{FlowSort}
 use Rattle.sk_lex.specs.Symbols.{Symbol, word_of, number_of, is_open, is_close, is_comma, is_colon, is_arrow, is_left_brace, is_right_brace}
 use Rattle.sk_def.specs.Filters.{filter_named}
+use Rattle.sk_def.specs.Fits.{HasFewBranches}
 use Rattle.sk_def.specs.Named.{place_of_con, place_of_hook}
 use Rattle.sk_def.specs.declared.ids.SortId.{SortId}
 use Rattle.sk_def.specs.declared.ids.HookId.{HookId}
@@ -25,7 +26,7 @@ use Rattle.sk_deftext.specs.Bodies as spec
 use Rattle.sk_deftext.specs.Bodies.{rule_hook, rule_con, variable, opening_of, bone, target, closing_brace, or_first, or_more, bone_of}
 use Rattle.sk_deftext.specs.Reading as read
 use Rattle.sk_deftext.specs.Reading.{skel, version, item, sort_name, con_name, hook_name, sort_used, argument, input, output, entry, closed, first, more, step}
-use Rattle.sk_deftext.specs.Written.{HasFewBranches, IsInOrder, Appear}
+use Rattle.sk_deftext.specs.Written.{IsInOrder, Appear}
 use Rattle.sk_deftext.specs.declared.draft.Draft.{Draft}
 use Rattle.sk_deftext.specs.declared.draft.OpenBone.{OpenBone}
 use Rattle.sk_deftext.specs.declared.draft.BoneHead.{BoneHead}

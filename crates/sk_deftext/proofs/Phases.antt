@@ -1,11 +1,12 @@
 -- Where a reader stands in a rule, as what it expects says: which lists of the draft are empty there.
 use Rattle.std.specs.Prelude.{◌≡◌, ℕ, suc, ◌<◌, ◌≤◌, Bool, true, false, List, [], ◌∷◌, ◌++◌, length, All, Option, Some, None}
+use Rattle.sk_def.specs.Fits.{HasFewBranches}
 use Rattle.sk_def.specs.declared.ids.Var.{Var}
 use Rattle.sk_def.specs.declared.bone.Bone.{Bone}
 use Rattle.sk_def.specs.declared.bone.Target.{Target}
 use Rattle.sk_def.specs.declared.bone.Target.TheVariants.{Own}
 use Rattle.sk_def.specs.declared.def.Rule.{Rule}
-use Rattle.sk_deftext.specs.Written.{HasFewBranches, IsInOrder, Appear, target_vars}
+use Rattle.sk_deftext.specs.Written.{IsInOrder, Appear, target_vars}
 use Rattle.sk_deftext.specs.declared.draft.Draft.{Draft}
 use Rattle.sk_deftext.specs.declared.draft.OpenBone.{OpenBone}
 use Rattle.sk_deftext.specs.declared.draft.BoneHead.{BoneHead}

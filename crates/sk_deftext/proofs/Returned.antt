@@ -11,6 +11,7 @@ use Rattle.sk_base.specs.Names.{with_name}
 use Rattle.sk_lex.specs.Symbols.{Symbol, Named, Plain}
 use Rattle.sk_lex.specs.declared.token.TokenKind.TheVariants.{LeftBrace, RightBrace, Arrow as Points}
 use Rattle.sk_def.specs.Filters.{filter_word, filter_named}
+use Rattle.sk_def.specs.Fits.{ListsAreShort, HasFewBranches}
 use Rattle.sk_def.specs.Layout.{BonesFit, filter_bone, hook_bone, branch_bone, after_branches}
 use Rattle.sk_def.specs.Named.{place_of_hook}
 use Rattle.sk_def.specs.declared.filter.Filter.{Filter}
@@ -27,7 +28,7 @@ use Rattle.sk_deftext.specs.Met.{met}
 use Rattle.sk_deftext.specs.Bodies as spec
 use Rattle.sk_deftext.specs.Bodies.{bone, opening_of, target, closing_brace, or_first, or_more}
 use Rattle.sk_deftext.specs.Reading.{step, closed}
-use Rattle.sk_deftext.specs.Written.{AreNames, Appear, ListsAreShort, HasFewBranches, target_vars, bones_vars}
+use Rattle.sk_deftext.specs.Written.{AreNames, Appear, target_vars, bones_vars}
 use Rattle.sk_deftext.specs.declared.draft.Draft.{Draft}
 use Rattle.sk_deftext.specs.declared.draft.OpenBone.{OpenBone}
 use Rattle.sk_deftext.specs.declared.draft.BoneHead.TheVariants as head

@@ -2,8 +2,9 @@
 use Rattle.std.specs.Prelude.{◌≡◌, ℕ, suc, ◌+◌, ◌-◌, ◌<◌, ◌≤◌, List, [], ◌∷◌, length, sum, All, IfSome, Option}
 use Rattle.sk_base.specs.declared.flow.FlowSort.{FlowSort}
 use Rattle.sk_def.specs.Layout.{AreBelow, TargetIsBelow, BonesFit, BranchesFit}
-use Rattle.sk_def.specs.Fits.{ArgumentFits, DefinitionFits}
+use Rattle.sk_def.specs.Fits.{ArgumentFits, ConstructorFits, HookFits, RuleFits}
 use Rattle.sk_def.specs.declared.def.Rule.{Rule}
+use Rattle.sk_def.specs.declared.def.Def.{Def}
 use Rattle.sk_def.specs.declared.ids.SortId.{SortId}
 use Rattle.sk_def.specs.declared.ids.HookId.{HookId}
 use Rattle.sk_def.specs.declared.ids.ConId.{ConId}
@@ -16,6 +17,15 @@ use Rattle.sk_deftext.specs.declared.draft.Draft.{Draft}
 use Rattle.sk_deftext.specs.declared.draft.OpenBone.{OpenBone}
 use Rattle.sk_deftext.specs.declared.draft.BoneHead.{BoneHead}
 use Rattle.sk_deftext.specs.declared.draft.BoneHead.TheVariants as head
+
+-- the definition so far is within the limits, those on lists of variables and on branches left aside, and each number in it is of its lists
+pub record DefinitionStands (d : Def) : Type 0 where
+  pub few_sorts : length d.sorts ≤ 16
+  pub few_constructors : length d.cons ≤ 128
+  pub few_hooks : length d.hooks ≤ 8
+  pub constructors_fit : All (ConstructorFits (length d.sorts)) d.cons
+  pub hooks_fit : All (HookFits (length d.sorts)) d.hooks
+  pub rules_fit : All (RuleFits d) d.rules
 
 -- where a constructor or a hook is being read there is room for it
 pub record Named (cons hooks : ℕ) (con_name hook_name : Option (List ℕ)) : Type 0 where
@@ -76,7 +86,7 @@ pub record Placed (hook_marks : List ℕ) (rule_marks : List (List ℕ)) (hooks 
   pub rules_placed : RulesPlaced rule_marks rules
 
 pub record Standing (draft : Draft) : Type 0 where
-  pub definition : DefinitionFits draft.def
+  pub definition : DefinitionStands draft.def
   pub named : Named (length draft.def.cons) (length draft.def.hooks) draft.con_name draft.hook_name
   pub heads : Heads (length draft.def.sorts) draft.sort draft.args draft.inputs draft.outputs
   pub rule_heads : RuleHeads (length draft.def.hooks) (length draft.def.cons) draft.hook draft.con

@@ -94,6 +94,7 @@ begun draft body at (opening.Filter filter) = with_head draft at (head.Filter fi
 begun draft body at (opening.Hook hook) = with_head draft at (head.Hook hook) (Open ∷ First BoneArgs ∷ BoneTarget ∷ Arrow ∷ Open ∷ First BoneOuts ∷ Bones body ∷ [])
 begun draft body at opening.Branches = with_branches draft at (BranchOpen ∷ Bones Branch ∷ OrFirst ∷ BranchOpen ∷ Bones Branch ∷ OrMore ∷ Bones body ∷ [])
 
+-- a bone begins only where there is room; a keyword needs none, since it begins no bone and is refused
 abbrev pub may_begin : Opening → Bool → Bool
 may_begin opening.Keyword room = true
 may_begin other room = room

@@ -1,16 +1,10 @@
 -- Where the parts of a definition stand.
-use Rattle.std.specs.Prelude.{◌≡◌, ◌≢◌, ℕ, ◌+◌, ◌-◌, ◌≤◌, ◌==◌, if◌then◌else◌, List, length, drop, slice_get, option_and_then, Option, Some, None}
+use Rattle.std.specs.Prelude.{◌≡◌, ◌≢◌, ℕ, ◌+◌, ◌-◌, ◌≤◌, ◌==◌, if◌then◌else◌, List, length, slice_get, option_and_then, Option, Some, None}
 use Rattle.sk_base.specs.Place.{place_at}
 use Rattle.sk_base.specs.declared.place.Place.{Place}
-use Rattle.sk_lex.specs.Symbols.{offset_of}
-use Rattle.sk_lex.specs.declared.token.Token.{Token}
 use Rattle.sk_def.specs.declared.def.Rule.{Rule}
 use Rattle.sk_deftext.specs.declared.source.Places.{Places}
 use Rattle.sk_deftext.specs.declared.source.Source.{Source}
-
--- the place in a text of the token of this number
-abbrev pub place_in : List ℕ → List Token → ℕ → Place
-place_in text tokens number = place_at text (offset_of text (drop number tokens))
 
 -- the place of a part of a rule: 0 is its header, the bones have their numbers from 1 on, and the closing comes last
 abbrev pub place_of_part : Places → ℕ → ℕ → Option Place

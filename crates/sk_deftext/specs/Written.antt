@@ -6,7 +6,7 @@ use Rattle.unicode_ident.specs.Ident.{is_xid_continue}
 use Rattle.sk_base.specs.Names.{place_of_name}
 use Rattle.sk_lex.specs.Tokens.{starts_word}
 use Rattle.sk_def.specs.Filters.{filter_named}
-use Rattle.sk_def.specs.Fits.{DefinitionFits}
+use Rattle.sk_def.specs.Fits.{ListsAreShort, HasFewBranches, DefinitionFits}
 use Rattle.sk_def.specs.Layout.{after_branches}
 use Rattle.sk_def.specs.declared.ids.Var.{Var}
 use Rattle.sk_def.specs.declared.bone.Target.{Target}
@@ -42,17 +42,6 @@ pub record IsName (name : List ℕ) : Type 0 where
 pub record AreNames (names : List (List ℕ)) : Type 0 where
   pub each : All IsName names
   pub found : (place : ℕ) → place < length names → place_of_name names (name_at names place) ≡ Some place
-
--- the lists of variables of a bone have at most 8 entries
-abbrev pub ListsAreShort : Bone → Type 0
-ListsAreShort (Apply filter args outs) = (length args ≤ 8) × (length outs ≤ 8)
-ListsAreShort (Call hook args target outs) = (length args ≤ 8) × (length outs ≤ 8)
-ListsAreShort (Either counts exports) = length exports ≤ 8
-
--- a branch bone has at most 8 branches
-abbrev pub HasFewBranches : Bone → Type 0
-HasFewBranches (Either counts exports) = length counts ≤ 8
-HasFewBranches other = Unit {0}
 
 abbrev pub target_vars : Target → List Var
 target_vars Own = []

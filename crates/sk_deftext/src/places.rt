@@ -2,8 +2,9 @@
 
 ghost use Rattle.std.specs.Prelude.{◌≡◌, ◌+◌, ◌-◌, ◌^◌, ◌<◌, ◌≤◌, map, length, Ok, OnOk, IfOk};
 ghost use Rattle.sk_base.specs.Place.{place_at};
+ghost use Rattle.sk_lex.specs.Symbols.{place_in};
 ghost use Rattle.sk_lex.specs.Tokens.{tokens_of};
-ghost use Rattle.sk_deftext.specs.Places.{place_in, column_after, Stands};
+ghost use Rattle.sk_deftext.specs.Places.{column_after, Stands};
 
 use sk_base::{NoMemory, Place, Seq, place_of};
 use sk_lex::{Token, offset_at};

@@ -1,16 +1,11 @@
 -- Derivations as lines of text.
-use Rattle.std.specs.Prelude.{ℕ, ◌+◌, List, [], ◌++◌, codes, decimal, slice_get}
-use Rattle.std.specs.Option.{option_map_or}
+use Rattle.std.specs.Prelude.{ℕ, ◌+◌, List, [], ◌++◌, codes, decimal}
+use Rattle.sk_def.specs.Named.{hook_name}
 use Rattle.sk_def.specs.declared.ids.HookId.{HookId}
-use Rattle.sk_def.specs.declared.def.Hook.{Hook}
 use Rattle.sk_def.specs.declared.def.Def.{Def}
 use Rattle.sk_value.specs.Texts.{tuple_text}
 use Rattle.sk_filter.specs.Arguments.{Values}
 use Rattle.sk_deriv.specs.Tree.{Derivation, derivation, Steps, done, pick, sub}
-
--- the name of a hook of the definition
-abbrev pub hook_name : Def → HookId → List ℕ
-hook_name d hook = option_map_or (λ (h : Hook). h.name) (slice_get d.hooks hook.0) []
 
 -- the line of a derivation at this depth, and of a pick
 abbrev pub call_line : Def → List (List ℕ) → ℕ → HookId → ℕ → Values → Values → List ℕ

@@ -19,6 +19,7 @@ use Rattle.sk_filter.specs.declared.arg.Arg.{Arg}
 use Rattle.sk_filter.specs.Arguments.{Values}
 use Rattle.sk_filter.specs.Results.{results_of, is_choice}
 use Rattle.sk_term.specs.declared.node.TermNode.{TermNode}
+use Rattle.sk_term.specs.Program.{Program}
 use Rattle.sk_deriv.specs.declared.entry.Entry.{Entry}
 use Rattle.sk_deriv.specs.Env.{Env, args_at, values_at, target_at, gain, export, start_of}
 use Rattle.sk_deriv.specs.Tree.{Derivation, derivation, Steps, done, pick, sub, hook_of, point_of, ins_of, outs_of}
@@ -69,14 +70,20 @@ pub record Setting : Type 0 where
   pub nodes : List TermNode
   pub names : ℕ
 
--- whether a value has the sort, its numbers are in range, and a state is over the names
+-- the setting of a definition and a program of it
+abbrev pub setting_of : Def → Program → Setting
+setting_of def program = record { def = def; nodes = program.nodes; names = program.names }
+
+-- whether a number is in range; a truth value passes
 abbrev pub holds_number : Value → Bool
 holds_number (Value.Int z) = is_number z
 holds_number (Value.Bool b) = true
 
+-- the same of a place of a store; an unset one passes
 abbrev pub place_holds_number : Option Value → Bool
 place_holds_number c = option_map_or holds_number c true
 
+-- whether a value has the sort, its numbers are in range, and a store has a place for each name
 abbrev pub has_sort : ℕ → FlowSort → Flow → Bool
 has_sort names FlowSort.Int (Flow.Int z) = is_number z
 has_sort names FlowSort.Bool (Flow.Bool b) = true
@@ -84,6 +91,7 @@ has_sort names FlowSort.Val (Flow.Val v) = holds_number v
 has_sort names FlowSort.Store (Flow.Store s) = (length s == names) && list_all place_holds_number s
 has_sort names _ _ = false
 
+-- whether there are as many values as sorts, each of its own
 abbrev pub have_sorts : ℕ → List FlowSort → Values → Bool
 have_sorts names [] [] = true
 have_sorts names (sort ∷ sorts) (v ∷ vs) = has_sort names sort v && have_sorts names sorts vs

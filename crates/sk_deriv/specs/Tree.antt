@@ -23,9 +23,6 @@ point_of (derivation hook point ins steps outs) = point
 abbrev pub ins_of : Derivation → Values
 ins_of (derivation hook point ins steps outs) = ins
 
-abbrev pub steps_of : Derivation → Steps
-steps_of (derivation hook point ins steps outs) = steps
-
 abbrev pub outs_of : Derivation → Values
 outs_of (derivation hook point ins steps outs) = outs
 

@@ -1,14 +1,13 @@
 //! Derivations as lines of text.
-ghost use Rattle.std.specs.Prelude.{◌≡◌, ◌++◌, ◌+◌, ◌<◌, Some, length, decimal, IfOk, OnOk, OnErr};
+ghost use Rattle.std.specs.Prelude.{◌≡◌, ◌++◌, ◌+◌, ◌<◌, Some, length, IfOk, OnOk, OnErr};
 ghost use Rattle.sk_base.specs.Sink.{AppendsPrefix};
 ghost use Rattle.sk_deriv.specs.Forest.{tree_at};
-ghost use Rattle.sk_deriv.specs.Lines.{hook_name, call_line, pick_line, derivation_lines};
+ghost use Rattle.sk_deriv.specs.Lines.{call_line, pick_line, derivation_lines};
 
 use crate::{Forest, Node, Step};
-use itoa::Buffer;
 use sk_base::{Names, NoMemory};
-use sk_def::{Def, HookId};
-use sk_value::put_bytes;
+use sk_def::Def;
+use sk_value::{put_bytes, put_count};
 use std::alloc::Global;
 
 impl Forest {
@@ -55,24 +54,6 @@ impl Forest {
     }
 }
 
-/// Appends a count.
-fn put_count(out: &mut Vec<u8>, count: usize) -> Result<(), NoMemory>
-    ensures { OnOk result (out.new.items ≡ out.old.items ++ decimal count) }
-{
-    let mut buffer = Buffer::new();
-    put_bytes(out, buffer.format(count).as_bytes())
-}
-
-/// The name of a hook of the definition.
-fn hook_name(def: &Def, hook: HookId) -> &[u8]
-    ensures { result.now ≡ hook_name def.now hook }
-{
-    match def.hooks.as_slice().get(usize::from(hook.0)) {
-        Some(found) => found.name.as_bytes(),
-        None => b"",
-    }
-}
-
 /// The line of a node at this depth.
 fn call_line(
     alloc: Global,
@@ -86,7 +67,7 @@ fn call_line(
     let mut line = Vec::new(alloc);
     put_count(&mut line, depth)?;
     put_bytes(&mut line, b" ")?;
-    put_bytes(&mut line, hook_name(def, node.hook))?;
+    put_bytes(&mut line, def.hook_name(node.hook))?;
     put_bytes(&mut line, b" ")?;
     put_count(&mut line, usize::from(node.point))?;
     put_bytes(&mut line, b" ")?;

@@ -2,7 +2,7 @@
 ghost use Rattle.std.specs.Prelude.{◌≡◌, [], ◌∷◌, true, false, Some, None, IfOk, is_some, replicate, slice_set};
 ghost use Rattle.std.specs.Option.{option_map_or};
 ghost use Rattle.sk_value.specs.declared.flow.Flow.{Flow};
-ghost use Rattle.sk_filter.specs.Results.{results_of, one, int_in, bool_in, value_at};
+ghost use Rattle.sk_filter.specs.Results.{results_of, is_choice, one, int_in, bool_in, value_at};
 
 use crate::arg::{
     the_bool, the_bools, the_cell, the_cell_and_val, the_int, the_ints, the_number, the_store,
@@ -24,6 +24,13 @@ macro_rules! on {
             None => Ok(Results::new($alloc)),
         }
     };
+}
+
+/// Whether a derivation picks one of a filter's results; any other filter has at most one.
+pub fn is_choice(filter: Filter) -> bool
+    ensures { result ≡ is_choice filter }
+{
+    matches!(filter, Filter::AnyBool | Filter::Pick)
 }
 
 /// The results of a filter in order, over this number of names. A filter that looks at its arguments has none where they

@@ -8,7 +8,7 @@ mod results;
 mod single;
 
 pub use arg::Arg;
-pub use filters::apply;
+pub use filters::{apply, is_choice};
 pub use results::Results;
 
 #[cfg(test)]

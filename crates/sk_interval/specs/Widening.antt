@@ -40,7 +40,7 @@ marks_below a = count_by (λ m. int_lt m a.low)
 abbrev pub marks_above : Bounds → List ℤ → ℕ
 marks_above a = count_by (λ m. int_lt a.high m)
 
--- how many marks lie outside
+-- how many marks lie outside an interval; the empty one ranks above all others
 abbrev pub interval_rank : Interval → List ℤ → ℕ
 interval_rank Empty marks = 2 * length marks + 1
 interval_rank (Range a) marks = marks_below a marks + marks_above a marks

@@ -33,7 +33,7 @@ all_marks literals = standard ++ near_all literals
 pub record AreMarksOf (literals marks : List ℤ) : Type 0 where
   pub same : (m : ℤ) → Contains marks m ↔ Contains (all_marks literals) m
 
--- an increasing list of numbers from the least to the greatest
+-- at most 2 ^ 32 numbers, increasing from the least to the greatest
 pub record IsThresholds (marks : List ℤ) : Type 0 where
   pub at_most : length marks ≤ 2 ^ 32
   pub least : slice_get marks 0 ≡ Some LEAST

@@ -20,6 +20,7 @@ told_at w answers k (Some a) = record { gives = w.gives answers k a; calls = w.c
 abbrev pub told : {K E : Type 0} → Walks K E → Table K E → K → Told K E
 told w T k = told_at w (own_answer T) k (T k Inputs)
 
+-- the join of two tuples; none adds nothing
 abbrev pub side_join : {K E : Type 0} → Walks K E → Option E → Option E → Option E
 side_join w x None = x
 side_join w None (Some b) = Some b

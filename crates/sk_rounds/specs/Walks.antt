@@ -48,6 +48,7 @@ Lies {K} w T U = (k : K) (s : Side) → side_leq w (T k s) (U k s) ≡ true
 abbrev pub is_key : {K E : Type 0} → Walks K E → K → Bool
 is_key w k = list_any (w.same k) w.keys
 
+-- none fits every side, and a tuple where the walks say so
 abbrev pub FitSide : {K E : Type 0} → Walks K E → K → Side → Option E → Type 0
 FitSide w k s None = Unit {0}
 FitSide w k s (Some a) = w.fits k s a ≡ true

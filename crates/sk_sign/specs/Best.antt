@@ -38,6 +38,7 @@ pub record NegGives (a : Sign) (r : One) : Type 0 where
   pub member : sign_domain.holds a number ≡ true
   pub sign : one_of (neg_ℤ number) ≡ r
 
+-- the law: a sign or truth value is in a result exactly where numbers with the arguments' signs give it
 pub record SignsAreBest : Type 0 where
   pub arith : (op : Arith) (a b : Sign) (r : One) → Decides (has (sign_domain.arith op a b) r) (NumbersGive (GiveSign op r) a b)
   pub neg : (a : Sign) (r : One) → Decides (has (sign_domain.neg a) r) (NegGives a r)

@@ -1,11 +1,10 @@
 -- What a line asks for in an assignment below every solution fits its slot and lies below the slot in every solution.
-use Rattle.std.proofs.Common.{◌≡◌, ℕ, zero, suc, ◌+◌, ◌<◌, Bool, true, false, ◌&&◌, ◌||◌, cond, List, length, [], ◌∷◌, map, Option, Some, None, refl, sym, ◌∙◌, ap, subst}
-use Rattle.std.specs.Prelude.{slice_get, unwrap_or, find}
-use Rattle.std.specs.List.{AllByRecursion, AllZip, list_all, filter_map}
-use Rattle.std.specs.Option.{option_map, option_map_or, option_and_then}
+use Rattle.std.proofs.Common.{◌≡◌, ℕ, suc, ◌<◌, Bool, true, false, ◌&&◌, ◌||◌, cond, List, length, [], ◌∷◌, Option, Some, None, refl, sym, ◌∙◌, ap, subst}
+use Rattle.std.specs.Prelude.{slice_get, find}
+use Rattle.std.specs.List.{AllZip, list_all, filter_map}
+use Rattle.std.specs.Option.{option_map_or, option_and_then}
 use Rattle.std.proofs.lemmas.Bool.{and_parts, and_from}
 use Rattle.std.proofs.lemmas.Option.{slice_get_within}
-use Rattle.sk_base.specs.declared.flow.FlowSort.{FlowSort}
 use Rattle.sk_def.specs.declared.ids.HookId.{HookId}
 use Rattle.sk_def.specs.declared.filter.Filter.{Filter}
 use Rattle.sk_def.specs.Signatures.{results}
@@ -24,12 +23,12 @@ use Rattle.sk_constr.specs.declared.line.Part.{Part}
 use Rattle.sk_constr.specs.declared.line.Line.{Line}
 use Rattle.sk_constr.specs.declared.line.KeyLines.{KeyLines}
 use Rattle.sk_constr.specs.declared.constraint_list.ConstraintList.{ConstraintList}
-use Rattle.sk_constr.specs.Fits.{is_lines_of, IsCalled, PartFits, LineFits, LinesFit, CoverLineFits, ConstraintsFit}
+use Rattle.sk_constr.specs.Fits.{is_lines_of, PartFits, LineFits, LinesFit, CoverLineFits, ConstraintsFit}
 use Rattle.sk_constr.specs.Positions.{flow_sort}
 use Rattle.sk_solve.specs.declared.assignment.Solved.{Solved}
 use Rattle.sk_solve.specs.declared.slot.Slot.{Slot}
-use Rattle.sk_solve.specs.Solves.{value_at, argument_at, operand_value, asked, is_of_key, inputs_at, outputs_at, part_holds, line_holds, cover_holds, outcome_fits, IsOfKey, KeyLies, IsAssignment, Solves, LiesBelow}
-use Rattle.sk_solve.specs.Climbing.{slot_of, slot_sorts, first_place, IsUnderway, IsDue, IsStep, LiesIn, LineHolds, IsLineOf, IsCoverOf}
+use Rattle.sk_solve.specs.Solves.{value_at, argument_at, operand_value, asked, is_of_key, inputs_at, outputs_at, part_holds, line_holds, cover_holds, outcome_fits, IsOfKey, KeyLies, Solves}
+use Rattle.sk_solve.specs.Climbing.{first_place, IsUnderway, IsDue, IsStep, LiesIn, LineHolds, IsLineOf, IsCoverOf}
 use Rattle.sk_solve.proofs.Places.{Beside, beside, both_at, each_at, one_passes, same_some, Matches}
 use Rattle.sk_solve.proofs.Raises.{slot_more}
 use Rattle.sk_solve.proofs.Steps.{still_step, step_more, step_here, two_steps}

@@ -1,6 +1,6 @@
 -- What operands are in positions that fit, and in positions that lie below others.
-use Rattle.std.proofs.Common.{◌≡◌, ℕ, zero, suc, Bool, true, false, List, [], ◌∷◌, map, Option, Some, None, refl, sym, ◌∙◌, subst}
-use Rattle.std.specs.Prelude.{slice_get, unwrap_or}
+use Rattle.std.proofs.Common.{◌≡◌, ℕ, zero, suc, true, List, [], ◌∷◌, map, Option, Some, None, refl, subst}
+use Rattle.std.specs.Prelude.{slice_get}
 use Rattle.std.specs.List.{AllZip, filter_map}
 use Rattle.std.specs.Option.{option_map, option_and_then}
 use Rattle.std.proofs.lemmas.Bool.{and_parts, and_from}
@@ -28,7 +28,7 @@ use Rattle.sk_constr.specs.declared.line.Operand.{Operand}
 use Rattle.sk_constr.specs.Fits.{sort_at, OperandFits, OperandsFit}
 use Rattle.sk_constr.specs.Positions.{flow_sort}
 use Rattle.sk_solve.specs.Solves.{flow_at, argument_at, operand_value, outcome_fits}
-use Rattle.sk_solve.proofs.Places.{Matches, matches_then, matches_map, matches_all, IfThere, all_there, pairs_from, pairs_to, zip_more}
+use Rattle.sk_solve.proofs.Places.{Matches, matches_map, matches_all, IfThere, all_there, pairs_from, zip_more}
 
 module _ (D : Type 0) (d : Domain D) where
   -- a flow has the sort and no empty part

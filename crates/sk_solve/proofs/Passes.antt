@@ -1,5 +1,5 @@
 -- A pass over the whole list, from its steps.
-use Rattle.std.proofs.Common.{◌≡◌, ℕ, zero, suc, ◌+◌, ◌<◌, ◌≤◌, Bool, true, false, ◌||◌, List, [], ◌∷◌, length, map, Option, Some, None, refl, sym, ◌∙◌, ap, subst, arith, inl, inr}
+use Rattle.std.proofs.Common.{◌≡◌, ℕ, zero, suc, ◌+◌, ◌<◌, ◌≤◌, Bool, true, ◌||◌, List, [], ◌∷◌, length, map, Some, None, refl, sym, ◌∙◌, subst, arith, inl, inr}
 use Rattle.std.specs.Prelude.{slice_get}
 use Rattle.std.specs.List.{AllByRecursion, AllZip, list_all}
 use Rattle.std.proofs.lemmas.Bool.{and_from, cases_eq}
@@ -11,9 +11,9 @@ use Rattle.sk_constr.specs.declared.line.Line.{Line}
 use Rattle.sk_constr.specs.declared.line.KeyLines.{KeyLines}
 use Rattle.sk_constr.specs.declared.constraint_list.ConstraintList.{ConstraintList}
 use Rattle.sk_solve.specs.declared.assignment.Solved.{Solved}
-use Rattle.sk_solve.specs.Solves.{line_holds, outcome_fits, IsOfKey, KeyLies, IsAssignment, Solves, LiesBelow}
-use Rattle.sk_solve.specs.Climbing.{nothing_at, LineHolds, LinesHold, KeysHold, CoversHold, IsUnderway, IsStep}
-use Rattle.sk_solve.proofs.Places.{Beside, beside, same_some}
+use Rattle.sk_solve.specs.Solves.{line_holds, outcome_fits, IsOfKey, KeyLies, IsAssignment, Solves}
+use Rattle.sk_solve.specs.Climbing.{nothing_at, LinesHold, KeysHold, CoversHold, IsUnderway, IsStep}
+use Rattle.sk_solve.proofs.Places.{same_some}
 use Rattle.sk_solve.proofs.Steps.{two_steps, step_more}
 
 -- what the entries before a place have

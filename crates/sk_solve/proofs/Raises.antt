@@ -1,5 +1,5 @@
 -- A raise of one slot keeps an assignment below every solution, and lowers the rank where it changes it.
-use Rattle.std.proofs.Common.{◌≡◌, ℕ, zero, suc, ◌+◌, ◌<◌, Bool, true, false, not, List, [], ◌∷◌, length, Option, Some, None, refl, sym, ◌∙◌, ap, subst, arith}
+use Rattle.std.proofs.Common.{◌≡◌, ℕ, zero, suc, ◌<◌, Bool, true, false, not, List, [], ◌∷◌, length, Some, None, refl, sym, ◌∙◌, ap, subst, arith}
 use Rattle.std.specs.Prelude.{slice_get, slice_set, unwrap_or, IfSome}
 use Rattle.std.specs.List.{AllZip}
 use Rattle.std.proofs.lemmas.Bool.{and_parts, and_from}
@@ -20,9 +20,9 @@ use Rattle.sk_constr.specs.declared.line.KeyLines.{KeyLines}
 use Rattle.sk_constr.specs.declared.constraint_list.ConstraintList.{ConstraintList}
 use Rattle.sk_solve.specs.declared.assignment.Solved.{Solved}
 use Rattle.sk_solve.specs.declared.slot.Slot.{Slot}
-use Rattle.sk_solve.specs.Solves.{outcome_fits, IsOfKey, KeyLies, IsAssignment, Solves, LiesBelow}
+use Rattle.sk_solve.specs.Solves.{outcome_fits, IsOfKey, KeyLies}
 use Rattle.sk_solve.specs.Climbing.{slot_of, with_slot, slot_sorts, joined, stays, raised, slot_rank, entry_rank, total_rank, IsUnderway, IsDue, IsStep, LiesIn}
-use Rattle.sk_solve.proofs.Places.{set_left, set_right, Beside, beside, both_at, same_some, sum_falls}
+use Rattle.sk_solve.proofs.Places.{set_left, set_right, beside, both_at, same_some, sum_falls}
 use Rattle.sk_solve.proofs.Ranks.{joined_falls}
 
 module _ (D : Type 0) (d : Domain D) where

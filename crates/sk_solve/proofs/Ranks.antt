@@ -1,5 +1,5 @@
 -- A tuple that a join changes ranks lower, and none ranks above every tuple.
-use Rattle.std.proofs.Common.{◌≡◌, ◌≢◌, ℕ, zero, suc, ◌+◌, ◌*◌, ◌<◌, ◌≤◌, ℤ, ◌<ℤ◌, Bool, true, false, List, [], ◌∷◌, length, Option, Some, None, refl, sym, ◌∙◌, ap, subst, arith}
+use Rattle.std.proofs.Common.{◌≡◌, ℕ, zero, suc, ◌+◌, ◌*◌, ◌<◌, ◌≤◌, ℤ, ◌<ℤ◌, true, false, List, [], ◌∷◌, length, Some, None, refl, sym, ◌∙◌, subst, arith}
 use Rattle.std.proofs.lemmas.Int.{ints}
 use Rattle.std.specs.Prelude.{slice_get}
 use Rattle.std.proofs.lemmas.Bool.{and_parts, eqb-true, both_ways}
@@ -12,7 +12,6 @@ use Rattle.sk_lattice.specs.declared.flow.AbsFlow.TheVariants as flow
 use Rattle.sk_lattice.specs.Domain.{Domain}
 use Rattle.sk_lattice.specs.DomainLaws.{DomainLaws, FiniteLaw}
 use Rattle.sk_lattice.specs.Empty.{is_proper}
-use Rattle.sk_lattice.specs.Merge.{Join, Widen, tuple_merge}
 use Rattle.sk_lattice.specs.Order.{tuple_leq}
 use Rattle.sk_lattice.specs.Ranks.{flow_rank, tuple_rank, RankLaws}
 use Rattle.sk_lattice.specs.Shapes.{flow_has_sort, has_sorts}

@@ -52,15 +52,17 @@ nothing_at key = record { hook = key.hook; point = key.point; positions = map (�
 abbrev pub ends : List ℤ
 ends = LEAST ∷ GREATEST ∷ []
 
--- the rank of what a slot of these sorts has: that of the tuple, and more than that of every tuple for none; the ranks of all
+-- the rank of what a slot of these sorts has: that of the tuple, and more than that of every tuple for none
 abbrev pub slot_rank : {D : Type 0} → Domain D → ℕ → List FlowSort → Outcome D → ℕ
 slot_rank d names sorts None = 1 + length sorts * ((names + 1) * (d.rank d.empty ends + 3))
 slot_rank d names sorts (Some t) = tuple_rank d ends t
 
+-- the sum of what f gives for the entries at each place of both lists
 abbrev pub zip_sum : {A B : Type 0} → (A → B → ℕ) → List A → List B → ℕ
 zip_sum f (x ∷ xs) (y ∷ ys) = f x y + zip_sum f xs ys
 zip_sum f _ _ = 0
 
+-- the rank of all slots of a key, and of all keys
 abbrev pub entry_rank : {D : Type 0} → Domain D → ℕ → KeyLines → Solved D → ℕ
 entry_rank d names key s = zip_sum (slot_rank d names) key.positions s.positions + slot_rank d names key.outputs s.outs
 

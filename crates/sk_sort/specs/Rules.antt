@@ -1,8 +1,7 @@
 -- The parts of a rule, and the first fault of a definition.
-use Rattle.std.specs.Prelude.{◌≡◌, ℕ, ◌+◌, not, ◌==◌, find, List, [], ◌∷◌, ◌++◌, length, map, Option, Some, None, Result, slice_get}
+use Rattle.std.specs.Prelude.{◌≡◌, ◌+◌, not, ◌==◌, List, [], ◌∷◌, ◌++◌, length, map, Option, Some, None, Result, slice_get}
 use Rattle.std.specs.List.{list_any, enumerate_from}
 use Rattle.std.specs.List.Sorted.{IsPermutation}
-use Rattle.std.specs.Option.{option_map}
 use Rattle.sk_base.specs.declared.flow.FlowSort.{FlowSort}
 use Rattle.sk_def.specs.declared.sorts.ArgSort.{ArgSort}
 use Rattle.sk_def.specs.declared.sorts.ArgSort.TheVariants as arg
@@ -51,11 +50,6 @@ closing_checks g rule hook = count_check (length rule.outputs) (length hook.outp
 -- the bones of a rule in the order of their checks, each with what is defined before it
 abbrev pub placed_bones : Def → Rule → Hook → Con → List Placed
 placed_bones d rule hook con = placed d (length rule.bones) 1 (header_sorts rule hook con) rule.bones
-
--- what is defined before the bone of this number
-abbrev pub defined_before : Def → Rule → Hook → Con → ℕ → Option Sorts
-defined_before d rule hook con number =
-    option_map (λ (p : Placed). p.before) (find (λ (p : Placed). p.number == number) (placed_bones d rule hook con))
 
 -- each bone of the rule's list is placed just once, and with its number
 abbrev pub BonesArePlaced : Def → Rule → Hook → Con → Type 0

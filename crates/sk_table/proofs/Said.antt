@@ -11,6 +11,7 @@ use Rattle.sk_lex.specs.Spelling.{Anything}
 use Rattle.sk_lex.specs.Symbols.{Symbol, Named, Plain}
 use Rattle.sk_lex.specs.declared.token.TokenKind.{TokenKind}
 use Rattle.sk_lex.specs.declared.token.TokenKind.TheVariants.{Number, LeftParen, RightParen, LeftBrace, RightBrace, Comma, Equals, Slash, Arrow}
+use Rattle.sk_def.specs.Named.{hook_name}
 use Rattle.sk_def.specs.declared.def.Def.{Def}
 use Rattle.sk_lattice.specs.Domain.{Domain}
 use Rattle.sk_lattice.specs.DomainTexts.{DomainTexts, TextLaws, EndsElement, is_domain_word}
@@ -24,7 +25,7 @@ use Rattle.sk_lattice.specs.declared.flow.AbsFlow.TheVariants as flow
 use Rattle.sk_deftext.specs.Written.{IsWord}
 use Rattle.sk_deftext.proofs.Spelled.{Writes, EndsWord, both, and_then, open_writes, close_writes, comma_writes, blank_writes, newline_writes, left_brace_writes, right_brace_writes, arrow_writes, word_writes, plain_is_word, key_writes}
 use Rattle.sk_deftext.proofs.Said.{lines_write}
-use Rattle.sk_table.specs.Texts.{hook_name, outs_text, triple_text, first_line, table_text}
+use Rattle.sk_table.specs.Texts.{outs_text, triple_text, first_line, table_text}
 use Rattle.sk_table.specs.declared.triple.Triple.{Triple}
 use Rattle.sk_table.proofs.Spelled.{same, under, narrowed, equals_writes, slash_writes, element_writes, number_writes, truths_write, none_writes, mark_symbols, unset_writes, before_mark}
 

@@ -10,7 +10,7 @@ use Rattle.std.proofs.lemmas.List.Elements.{All-head, All-tail}
 use Rattle.std.proofs.lemmas.Option.{slice_get_within}
 use Rattle.sk_base.specs.Answer.{◌>>=◌}
 use Rattle.sk_base.specs.Names.{place_of_name}
-use Rattle.sk_def.specs.Named.{hook_named}
+use Rattle.sk_def.specs.Named.{hook_name, hook_named}
 use Rattle.sk_def.specs.declared.ids.HookId.{HookId}
 use Rattle.sk_def.specs.declared.ids.SortId.{SortId}
 use Rattle.sk_def.specs.declared.def.Def.{Def}
@@ -37,7 +37,7 @@ use Rattle.sk_table.specs.declared.triple.Triple.{Triple}
 use Rattle.sk_table.specs.Fits.{TripleFits}
 use Rattle.sk_table.specs.Meets.{with_place}
 use Rattle.sk_table.specs.Tables.{TableReading, met, refused, domain_word, hook_found, hook_word as found_hook, hook_of, has_sort_at, point_found, point, tuple_at, with_tuple, with_ins, ins, with_triple, outs, step, table_rules, no_triple, read_symbols, lexed, triples_read, read_table}
-use Rattle.sk_table.specs.Texts.{hook_name, first_line, triples_text, table_text}
+use Rattle.sk_table.specs.Texts.{first_line, triples_text, table_text}
 use Rattle.sk_table.specs.Written.{IsProper, HasText}
 use Rattle.sk_table.proofs.Said.{inside, flow_symbols, tuple_symbols, outs_symbols, triple_symbols, table_symbols, table_writes}
 use Rattle.sk_table.proofs.TupleReturned.{tuple_returns}

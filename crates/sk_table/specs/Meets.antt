@@ -1,10 +1,9 @@
 -- What the code of a reader means.
-use Rattle.std.specs.Prelude.{◌≡◌, ◌<◌, ℕ, Bool, true, false, ◌||◌, List, length, map, drop, Option, Some, None, Result, Ok, Err, ⊤}
+use Rattle.std.specs.Prelude.{◌≡◌, ◌<◌, ℕ, Bool, true, false, ◌||◌, List, length, map, Option, Some, None, Result, Ok, Err, ⊤}
 use Rattle.std.specs.List.{list_all}
-use Rattle.sk_base.specs.Place.{place_at}
 use Rattle.sk_base.specs.declared.flow.FlowSort.{FlowSort}
 use Rattle.sk_base.specs.declared.place.Place.{Place}
-use Rattle.sk_lex.specs.Symbols.{offset_of}
+use Rattle.sk_lex.specs.Symbols.{place_in}
 use Rattle.sk_lex.specs.declared.token.Token.{Token}
 use Rattle.sk_term.specs.Meets.{HasGrown}
 use Rattle.sk_lattice.specs.Domain.{Domain}
@@ -40,10 +39,6 @@ abbrev pub OnFault : {A : Type 0} → Result A TableFault → Type 0 → Type 0
 OnFault (Err (fault.Bad error place)) P = P
 OnFault (Err fault.NoMemory) P = ⊤
 OnFault (Ok value) P = ⊤
-
--- the place in a text of the token of this number
-abbrev pub place_in : List ℕ → List Token → ℕ → Place
-place_in text tokens number = place_at text (offset_of text (drop number tokens))
 
 abbrev pub placed : List ℕ → List Token → Option (TableError × ℕ) → Option (TableError × Place)
 placed text tokens None = None

@@ -1,19 +1,13 @@
 -- The text of a table: one triple on each line.
-use Rattle.std.specs.Prelude.{ℕ, List, [], ◌++◌, codes, decimal, slice_get, Option, Some, None}
+use Rattle.std.specs.Prelude.{ℕ, List, ◌++◌, codes, decimal, Option, Some, None}
 use Rattle.std.specs.List.{flat_map}
-use Rattle.std.specs.Option.{option_map_or}
-use Rattle.sk_def.specs.declared.ids.HookId.{HookId}
-use Rattle.sk_def.specs.declared.def.Hook.{Hook}
+use Rattle.sk_def.specs.Named.{hook_name}
 use Rattle.sk_def.specs.declared.def.Def.{Def}
 use Rattle.sk_lattice.specs.Domain.{Domain}
 use Rattle.sk_lattice.specs.DomainTexts.{DomainTexts}
 use Rattle.sk_lattice.specs.Texts.{tuple_text}
 use Rattle.sk_lattice.specs.declared.flow.AbsFlow.{AbsFlow}
 use Rattle.sk_table.specs.declared.triple.Triple.{Triple}
-
--- the name of a hook of the definition
-abbrev pub hook_name : Def → HookId → List ℕ
-hook_name d hook = option_map_or (λ (h : Hook). h.name) (slice_get d.hooks hook.0) []
 
 abbrev pub outs_text : {D : Type 0} → Domain D → DomainTexts D → List (List ℕ) → Option (List (AbsFlow D)) → List ℕ
 outs_text d t names None = codes "none"

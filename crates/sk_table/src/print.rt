@@ -3,26 +3,16 @@
 ghost use Rattle.std.specs.Prelude.{◌≡◌, ◌++◌, IfOk, OnOk, Ok};
 ghost use Rattle.sk_term.specs.Program.{Program};
 ghost use Rattle.sk_table.specs.Tables.{read_table};
-ghost use Rattle.sk_table.specs.Texts.{first_line, hook_name, outs_text, table_text, triple_text, triples_text};
+ghost use Rattle.sk_table.specs.Texts.{first_line, outs_text, table_text, triple_text, triples_text};
 ghost use Rattle.sk_table.specs.Written.{HasText};
 
 use crate::triple::{Table, Triple};
 use sk_base::{Names, NoMemory};
-use sk_def::{Def, HookId};
+use sk_def::Def;
 use sk_lattice::{AbsTuple, NumDom};
 use sk_lex::put_number;
 use sk_value::put_bytes;
 use std::alloc::Global;
-
-/// The name of a hook of the definition.
-fn hook_name(def: &Def, hook: HookId) -> &[u8]
-    ensures { result.now ≡ hook_name def.now hook }
-{
-    match def.hooks.as_slice().get(usize::from(hook.0)) {
-        Some(found) => found.name.as_bytes(),
-        None => b"",
-    }
-}
 
 /// Appends the line before the triples.
 fn put_first_line<D: NumDom>(out: &mut Vec<u8>) -> Result<(), NoMemory>
@@ -56,7 +46,7 @@ fn put_triple<D: NumDom>(
 ) -> Result<(), NoMemory>
     ensures { OnOk result (out.new.items ≡ out.old.items ++ triple_text D.domain D.texts def.now names.now triple.now) }
 {
-    put_bytes(out, hook_name(def, triple.hook))?;
+    put_bytes(out, def.hook_name(triple.hook))?;
     put_bytes(out, b" ")?;
     put_number(out, i64::from(triple.point))?;
     put_bytes(out, b" ")?;

@@ -1,5 +1,6 @@
 pub mod Entries
 pub mod Grown
+pub mod Keys
 pub mod Nodes
 pub mod Programs
 pub mod Reached

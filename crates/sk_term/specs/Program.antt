@@ -66,6 +66,7 @@ ChildrenFit d list names [] [] = Unit {0}
 ChildrenFit d list names (child ∷ children) (wanted ∷ sorts) = ChildFits d list names child wanted × ChildrenFit d list names children sorts
 ChildrenFit d list names _ _ = ⊥
 
+-- what was gathered, with more leaves before it
 abbrev pub with_front : List ℤ → List ℤ × List (List ℤ) → List ℤ × List (List ℤ)
 with_front front gathered = (front ++ gathered.0, gathered.1)
 

@@ -113,7 +113,10 @@ abbrev mutual
 abbrev pub takes_node : Def → TermNode → Hook → Bool
 takes_node d node hook = option_map_or (λ (found : SortId). found.0 == hook.sort.0) (sort_of_node d node) false
 
+-- the hooks from this place on that evaluate a point's node, as keys
+abbrev pub keys_at : Def → TermNode → ℕ → ℕ → List Hook → List (HookId × ℕ)
+keys_at d node point place hooks = map (λ h. (record { 0 = h.0 }, point)) (filter (λ h. takes_node d node h.1) (enumerate_from place hooks))
+
 -- the keys of a program: each point with each hook of its sort, by point and then by the hook's place
 abbrev pub keys : Def → List TermNode → List (HookId × ℕ)
-keys d ns =
-    flat_map (λ at. map (λ h. (record { 0 = h.0 }, at.0)) (filter (λ h. takes_node d at.1 h.1) (enumerate_from 0 d.hooks))) (enumerate_from 0 ns)
+keys d ns = flat_map (λ at. keys_at d at.1 at.0 0 d.hooks) (enumerate_from 0 ns)

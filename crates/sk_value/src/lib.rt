@@ -10,6 +10,6 @@ mod value;
 
 pub use arith::{Arith, Compare, Refine, results_are_given};
 pub use flow::Flow;
-pub use text::{put_between, put_bytes, put_number, put_truth, put_value};
+pub use text::{put_between, put_bytes, put_count, put_number, put_truth, put_value};
 pub use tuple::Tuple;
 pub use value::{Store, Value};

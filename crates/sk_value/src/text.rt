@@ -1,5 +1,5 @@
 //! Pieces of texts. Where memory is refused they leave what stood as it was.
-ghost use Rattle.std.specs.Prelude.{◌≡◌, ◌++◌, OnOk, OnErr};
+ghost use Rattle.std.specs.Prelude.{◌≡◌, ◌++◌, decimal, OnOk, OnErr};
 ghost use Rattle.std.specs.Fmt.{signed_decimal};
 ghost use Rattle.sk_value.specs.Texts.{between, truth_text, value_text};
 
@@ -23,6 +23,15 @@ pub fn put_number(out: &mut Vec<u8>, number: i64) -> Result<(), NoMemory>
 {
     let mut buffer = Buffer::new();
     put_bytes(out, buffer.format(number).as_bytes())
+}
+
+/// Appends a count's digits.
+pub fn put_count(out: &mut Vec<u8>, count: usize) -> Result<(), NoMemory>
+    ensures ok { OnOk result (out.new.items ≡ out.old.items ++ decimal count) }
+    ensures err { OnErr result (out.new.items ≡ out.old.items) }
+{
+    let mut buffer = Buffer::new();
+    put_bytes(out, buffer.format(count).as_bytes())
 }
 
 /// Appends `true` or `false`.

@@ -9,9 +9,10 @@ use Rattle.sk_lattice.specs.declared.flow.AbsFlow.{AbsFlow}
 use Rattle.sk_lattice.specs.Shapes.{has_sorts}
 use Rattle.sk_term.specs.Program.{Program, IsProgramOf}
 use Rattle.sk_term.proofs.Programs.{sort_is_declared}
+use Rattle.sk_deriv.specs.Moves.{setting_of}
 use Rattle.sk_table.specs.declared.triple.Triple.{Triple}
 use Rattle.sk_table.specs.Fits as read
-use Rattle.sk_abswalk.specs.Fits.{setting_of, OutcomeFits, TripleFits}
+use Rattle.sk_abswalk.specs.Fits.{OutcomeFits, TripleFits}
 use Rattle.sk_verify.specs.Reading.{ReadTablesFit}
 
 sort_is : (wanted : SortId) (found : Option SortId) → option_map_or (λ (f : SortId). f.0 == wanted.0) found false ≡ true → found ≡ Some wanted

@@ -2,9 +2,10 @@
 ghost use Rattle.std.specs.Prelude.{◌≡◌, Ok, IfOk, Some, All};
 ghost use Rattle.std.specs.Option.{option_map};
 ghost use Rattle.sk_term.specs.Program.{IsProgramOf};
+ghost use Rattle.sk_deriv.specs.Moves.{setting_of};
 ghost use Rattle.sk_absfilter.specs.Laws.{outcome_leq};
 ghost use Rattle.sk_abswalk.specs.declared.verdict.Verdict.{Verdict};
-ghost use Rattle.sk_abswalk.specs.Fits.{setting_of, CallFits, TableFits};
+ghost use Rattle.sk_abswalk.specs.Fits.{CallFits, TableFits};
 ghost use Rattle.sk_abswalk.specs.Tables.{call_of, is_covered, IsBounded, IsSound};
 ghost use Rattle.sk_abswalk.specs.Verdict.{first_failing, verdict_of};
 ghost use Rattle.sk_verify.specs.Judged.{IsFirst, IsJudged};

@@ -5,7 +5,7 @@ use Rattle.sk_walk.specs.declared.stop.WalkStop.{WalkStop}
 use Rattle.sk_walk.specs.declared.stop.WalkStop.TheVariants.{Stop, NoMemory}
 use Rattle.sk_walk.specs.Walks.{Meaning, WalksBranches, Composed, Halted}
 
--- an Ok is a composed walk, and a stop halted one; want of memory says nothing
+-- an Ok is a composed walk, and a stop a halted one; want of memory says nothing
 abbrev pub AnswersWalk : {S W X : Type 0} → Meaning S W X → ℕ → List Bone → S → W → S → Result W (WalkStop X) → Type 0
 AnswersWalk m first bones s w t (Ok v) = Composed m first bones s w t v
 AnswersWalk m first bones s w t (Err (Stop stop)) = Halted m first bones s w t stop

@@ -1,4 +1,4 @@
-use Rattle.sk_abswalk.specs.Fits.{setting_of}
+use Rattle.sk_deriv.specs.Moves.{setting_of}
 use Rattle.sk_abswalk.proofs.OwnOutputs.{own_outputs_fit}
 use Rattle.sk_abswalk.proofs.collect_walk.walk_collect.Goals as goal
 

@@ -1,7 +1,7 @@
+use Rattle.sk_deriv.specs.Moves.{setting_of}
 use Rattle.sk_lattice.proofs.SortLemmas.{shape_laws}
 use Rattle.sk_lattice.proofs.Tuples.{tuple_laws}
 use Rattle.sk_rounds.proofs.Ending.{analysed_fits, analysed_in_time}
-use Rattle.sk_abswalk.specs.Fits.{setting_of}
 use Rattle.sk_abswalk.proofs.Analysed.{triples_fit, table_accepted, table_least}
 use Rattle.sk_abswalk.proofs.OnePerKey.{one_per_key}
 use Rattle.sk_abswalk.proofs.round_laws.analysed_tables_are_accepted.Goals as goal

@@ -1,6 +1,6 @@
 use Rattle.std.proofs.Common.{List, subst}
+use Rattle.sk_deriv.specs.Moves.{setting_of}
 use Rattle.sk_table.specs.declared.triple.Triple.{Triple}
-use Rattle.sk_abswalk.specs.Fits.{setting_of}
 use Rattle.sk_abswalk.specs.FromTable.{GivesFrom}
 use Rattle.sk_abswalk.specs.Tables.{table_answer}
 use Rattle.sk_abswalk.specs.Walk.{abstract_outputs}

@@ -1,7 +1,8 @@
 use Rattle.std.proofs.Common.{◌≡◌, ◌∙◌, ◌++◌, List, sym, ap, length, get_or, ◌<◌}
 use Rattle.sk_def.specs.declared.def.Def.{Def}
+use Rattle.sk_term.proofs.Keys.{takes_is, later}
 use Rattle.sk_abswalk.specs.Reading.{Key}
-use Rattle.sk_analyse.proofs.KeyList.{takes_is, later, push_turn, pass_turn}
+use Rattle.sk_analyse.proofs.KeyList.{push_turn, pass_turn}
 use Rattle.sk_analyse.proofs.key_list.push_keys_at.Goals.{then-takes+in_ok-push, else-takes}
 use Rattle.sk_analyse.proofs.key_list.push_keys_at.Goals as goal
 

@@ -1,7 +1,7 @@
 use Rattle.std.proofs.Common.{◌≡◌, ◌++◌, drop, Some}
 use Rattle.std.specs.List.{slice_get}
 use Rattle.sk_term.specs.declared.node.TermNode.{TermNode}
-use Rattle.sk_analyse.specs.Keys.{keys_at}
+use Rattle.sk_term.specs.Terms.{keys_at}
 use Rattle.sk_analyse.proofs.key_list.push_keys_at.Given as goal
 
 abbrev pub invariant-loop-place : goal.invariant-loop-place

@@ -1,4 +1,4 @@
-use Rattle.sk_abswalk.specs.Fits.{setting_of}
+use Rattle.sk_deriv.specs.Moves.{setting_of}
 use Rattle.sk_abswalk.specs.Reading.{walks_of}
 use Rattle.sk_analyse.specs.Tabled.{tabled}
 use Rattle.sk_analyse.proofs.Concluding.{triples_are, concluded}

@@ -1,8 +1,8 @@
 use Rattle.std.proofs.Common.{◌≡◌, ◌*◌, length, map, replicate, None, ◌∙◌, ap, ap₂}
 use Rattle.std.proofs.lemmas.List.{length-replicate}
 use Rattle.sk_def.specs.declared.def.Def.{Def}
+use Rattle.sk_deriv.specs.Moves.{setting_of}
 use Rattle.sk_rounds.specs.Rounds.{side_join, join_calls, first_table}
-use Rattle.sk_abswalk.specs.Fits.{setting_of}
 use Rattle.sk_abswalk.specs.Reading.{keyed, walks_of}
 use Rattle.sk_analyse.specs.Tabled.{tabled, HasAllSlots}
 use Rattle.sk_analyse.specs.Sides.{side_of}

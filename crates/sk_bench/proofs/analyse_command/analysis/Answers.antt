@@ -1,5 +1,5 @@
 use Rattle.std.proofs.Common.{◌≤◌, arith, length, refl}
-use Rattle.sk_abswalk.specs.Fits.{setting_of}
+use Rattle.sk_deriv.specs.Moves.{setting_of}
 use Rattle.sk_bench.specs.JobText.{seen}
 use Rattle.sk_bench.proofs.Analysed.{analysis_in, analysis_means}
 use Rattle.sk_bench.proofs.Bounds.{few_rounds}

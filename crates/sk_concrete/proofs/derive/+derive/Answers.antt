@@ -1,6 +1,6 @@
 use Rattle.std.proofs.Common.{◌-◌, refl}
 use Rattle.std.proofs.lemmas.Result.{IfOk-weaker}
-use Rattle.sk_concrete.specs.Found.{setting_of}
+use Rattle.sk_deriv.specs.Moves.{setting_of}
 use Rattle.sk_concrete.proofs.Turned.{call_derived, stopped_at, turned_next}
 use Rattle.sk_concrete.proofs.WorldsFit.{some_outputs}
 use Rattle.sk_concrete.proofs.derive.+derive.Goals as goal

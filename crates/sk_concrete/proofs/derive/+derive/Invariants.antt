@@ -1,5 +1,5 @@
 use Rattle.std.proofs.Common.{◌-◌, length}
-use Rattle.sk_concrete.specs.Found.{setting_of}
+use Rattle.sk_deriv.specs.Moves.{setting_of}
 use Rattle.sk_concrete.proofs.Turned.{Turned, asked}
 use Rattle.sk_concrete.proofs.derive.+derive.Given as goal
 

@@ -2,7 +2,7 @@ use Rattle.std.proofs.Common.{◌≡◌, ◌∙◌, ap, subst, true, length}
 use Rattle.sk_def.specs.Sorts.{Sorts}
 use Rattle.sk_sort.proofs.RuleParts.{header_long}
 use Rattle.sk_walk.specs.Sorted.{Sorted}
-use Rattle.sk_concrete.specs.Found.{setting_of}
+use Rattle.sk_deriv.specs.Moves.{setting_of}
 use Rattle.sk_concrete.specs.Fitting.{worlds_fit}
 use Rattle.sk_concrete.proofs.WorldsFit.{outputs_there}
 use Rattle.sk_concrete.proofs.RulesWalked.{rule_walked, rule_stopped}

@@ -1,7 +1,7 @@
 use Rattle.std.proofs.Common.{◌≡◌, ◌++◌, drop, map, Some}
 use Rattle.std.specs.List.{flat_map, enumerate_from}
-use Rattle.sk_term.specs.Terms.{keys}
-use Rattle.sk_constr.specs.Keys.{lines_of_key, keys_at}
+use Rattle.sk_term.specs.Terms.{keys, keys_at}
+use Rattle.sk_constr.specs.Keys.{lines_of_key}
 use Rattle.sk_constr.proofs.making.all_keys.Given as goal
 
 abbrev pub invariant-loop-point : goal.invariant-loop-point

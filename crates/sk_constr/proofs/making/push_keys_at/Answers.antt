@@ -1,8 +1,9 @@
 use Rattle.std.proofs.Common.{◌≡◌, ◌∙◌, ◌++◌, List, sym, ap, map, length, get_or, Some, ◌<◌}
 use Rattle.sk_def.specs.declared.def.Def.{Def}
+use Rattle.sk_term.proofs.Keys.{takes_is, later}
 use Rattle.sk_constr.specs.declared.line.KeyLines.{KeyLines}
 use Rattle.sk_constr.specs.Keys.{lines_of_key}
-use Rattle.sk_constr.proofs.KeyTurns.{takes_is, takes_here, later, push_turn, pass_turn}
+use Rattle.sk_constr.proofs.KeyTurns.{takes_here, push_turn, pass_turn}
 use Rattle.sk_constr.proofs.making.push_keys_at.Goals.{then-takes+in_ok-lines+in_ok-push, else-takes}
 use Rattle.sk_constr.proofs.making.push_keys_at.Goals as goal
 
@@ -21,7 +22,7 @@ loop-place-preserved c =
     let item-is : c.hook-item.result ≡ get_or d.hooks c.loop-place.place c.hook-item.result = rw items-are at c.hook-item.is in
     let within : c.loop-place.place < length d.hooks = rw items-are at c.loop-place-test.true in
     let takes = takes_is d nodes c.args.point c.sort_at-sort.result (c.sort_at-sort.ensures.declared d c.requires.program) node c.hook-item.result at ∙ sym c.takes.ensures in
-    let rest = map (lines_of_key d nodes) (later d nodes node c.args.point d.hooks c.loop-place.place c.hook-item.result within item-is) in
+    let rest = map (lines_of_key d nodes) (later d node c.args.point d.hooks c.loop-place.place c.hook-item.result within item-is) in
     elim c.if-takes.branch [
       | then-takes+in_ok-lines+in_ok-push w ↦
           ap (λ (ls : List KeyLines). map Some ls ++ rest) (w.list-is ∙ w.in_ok-push.ensures.ok)

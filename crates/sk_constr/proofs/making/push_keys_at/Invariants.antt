@@ -1,7 +1,8 @@
 use Rattle.std.proofs.Common.{◌≡◌, ◌++◌, drop, map, Some}
 use Rattle.std.specs.List.{slice_get}
 use Rattle.sk_term.specs.declared.node.TermNode.{TermNode}
-use Rattle.sk_constr.specs.Keys.{lines_of_key, keys_at}
+use Rattle.sk_term.specs.Terms.{keys_at}
+use Rattle.sk_constr.specs.Keys.{lines_of_key}
 use Rattle.sk_constr.proofs.making.push_keys_at.Given as goal
 
 abbrev pub invariant-loop-place : goal.invariant-loop-place

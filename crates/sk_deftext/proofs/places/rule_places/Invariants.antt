@@ -1,5 +1,6 @@
 use Rattle.std.proofs.Common.{◌≡◌, map, take}
-use Rattle.sk_deftext.specs.Places.{place_in, Stands}
+use Rattle.sk_lex.specs.Symbols.{place_in}
+use Rattle.sk_deftext.specs.Places.{Stands}
 use Rattle.sk_deftext.proofs.places.rule_places.Given as goal
 
 abbrev pub invariant-loop-numbers : goal.invariant-loop-numbers

@@ -1,13 +1,9 @@
-use Rattle.std.proofs.Common.{rules, ◌≡◌, ◌<◌, ◌∙◌, length, Some, None, refl, sym, subst, ap}
+use Rattle.std.proofs.Common.{rules, ◌≡◌, ◌<◌, ◌∙◌, length, Some, refl, sym, subst, ap}
 use Rattle.std.specs.Prelude.{slice_get, slice_index_or}
-use Rattle.std.specs.Option.{option_copied, option_and_then}
+use Rattle.std.specs.Option.{option_copied}
 use Rattle.std.proofs.lemmas.Option.{slice_get-get_or}
 use Rattle.std.proofs.lemmas.Result.{IfOk-weaker}
-use Rattle.sk_deriv.specs.Env.{all_of}
-use Rattle.sk_constr.specs.declared.line.Part.{Part}
-use Rattle.sk_absfilter.specs.Abstract.{abstract_result}
 use Rattle.sk_solve.specs.declared.slot.Slot.{Slot}
-use Rattle.sk_solve.specs.Solves.{value_at, argument_at, operand_value}
 use Rattle.sk_solve.specs.Climbing.{IsDue, IsStep, LiesIn}
 use Rattle.sk_solve.proofs.Places.{same_some}
 use Rattle.sk_solve.proofs.Due.{line_entry, fits_of, idle_steps, filter_asks, filter_steps, join_asks, join_steps, end_asks, end_steps, uncalled_steps, place_called, called_asks, called_within, answer_due, call_steps}

@@ -1,7 +1,6 @@
 use Rattle.std.proofs.Common.{◌≡◌, ◌∙◌, ◌≤◌, ◌+◌, ◌++◌, ◌∷◌, [], length, drop, map, sym, subst, ap, arith, add-one}
 use Rattle.std.proofs.lemmas.List.{append-nil, drop_all}
 use Rattle.sk_base.proofs.Drops.{drop_at, push_turn}
-use Rattle.sk_constr.specs.declared.line.KeyLines.{KeyLines}
 use Rattle.sk_solve.specs.Climbing.{nothing_at, IsUnderway}
 use Rattle.sk_solve.proofs.Passes.{nothing_underway}
 use Rattle.sk_solve.proofs.solving.start.Goals as goal

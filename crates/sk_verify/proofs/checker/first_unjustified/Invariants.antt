@@ -1,5 +1,5 @@
 use Rattle.std.proofs.Common.{◌≡◌, ◌+◌, drop}
-use Rattle.sk_abswalk.specs.Fits.{setting_of}
+use Rattle.sk_deriv.specs.Moves.{setting_of}
 use Rattle.sk_abswalk.specs.Tables.{is_justified}
 use Rattle.sk_abswalk.specs.Verdict.{first_failing}
 use Rattle.sk_verify.proofs.FirstFailing.{failing_from}

@@ -1,6 +1,6 @@
 use Rattle.std.proofs.Common.{rules, ◌≡◌, Some}
+use Rattle.sk_deriv.specs.Moves.{setting_of}
 use Rattle.sk_abswalk.specs.declared.verdict.Verdict.{Verdict}
-use Rattle.sk_abswalk.specs.Fits.{setting_of}
 use Rattle.sk_abswalk.specs.Verdict.{verdict_of}
 use Rattle.sk_verify.proofs.checker.verify.Goals as goal
 
