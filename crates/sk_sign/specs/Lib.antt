@@ -4,3 +4,4 @@ pub mod Tables
 pub mod Texts
 pub mod Laws
 pub mod Best
+pub mod Inclusion
