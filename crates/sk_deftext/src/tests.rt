@@ -282,15 +282,20 @@ fn up_to(line: u32, column: u32, which: Which) -> [Result<(), DefFault>; 2] {
 }
 
 #[test]
-fn reads_and_refuses(rt: HostRuntime) -> Result<(), Fail> {
-    let alloc = rt.alloc();
+fn reads_a_definition(rt: HostRuntime) -> Result<(), Fail> {
     assert_eq!(rt;
-        read(alloc, MINI),
+        read(rt.alloc(), MINI),
         Ok((
             [1, 2, 1, 2],
             [Some(at(5, 1)), Some(at(7, 1)), Some(at(11, 3))]
         ))
     );
+    Ok(())
+}
+
+#[test]
+fn refuses_with_places(rt: HostRuntime) -> Result<(), Fail> {
+    let alloc = rt.alloc();
     let refused: [(&[u8], DefFault); 10] = [
         (CUT, DefFault::Unexpected(at(10, 15))),
         (b"", DefFault::Unexpected(at(1, 1))),

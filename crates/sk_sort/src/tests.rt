@@ -19,6 +19,15 @@ enum Step {
     Either(u8),
 }
 
+/// The bones of a rule for `plus` that is well sorted.
+const GOOD: [Step; 5] = [
+    Step::Own(5, 2),
+    Step::Either(3),
+    Step::Eval(5, 1, 3),
+    Step::Zero(3),
+    Step::Keep(3, 4),
+];
+
 fn variables(alloc: Global, numbers: &[u8]) -> Result<VarList, NoMemory> {
     let mut list = Seq::new(alloc);
     for number in numbers {
@@ -145,58 +154,48 @@ fn bad(why: SortError, bone: u16) -> Option<SortFault> {
 }
 
 #[test]
-fn finds_the_first_fault(rt: HostRuntime) -> Result<(), Fail> {
-    use SortError::{BranchLacks, Redefined, Undefined, WrongCount, WrongSort};
-    use Step::{Either, Eval, Keep, Own, Twice, Zero};
+fn finds_the_first_fault_of_a_bone(rt: HostRuntime) -> Result<(), Fail> {
+    use SortError::{Undefined, WrongCount, WrongSort};
+    use Step::{Keep, Twice, Zero};
     let alloc = rt.alloc();
-    let lacks = [Eval(5, 0, 2), Either(3), Eval(5, 1, 3), Zero(4), Zero(2)];
-    let redefined = [Eval(5, 0, 2), Either(3), Eval(5, 1, 3), Zero(3), Zero(2)];
-    let good = [Own(5, 2), Either(3), Eval(5, 1, 3), Zero(3), Keep(3, 4)];
-    let fault = fault_of(alloc, 1, &[0, 1], &good, &[4])?;
-    assert_eq!(rt; fault, None, "well sorted");
-    let fault = fault_of(alloc, 1, &[0], &good, &[4])?;
-    assert_eq!(rt; fault, bad(WrongCount, 0), "a term too few");
-    let fault = fault_of(alloc, 1, &[0, 0], &good, &[4])?;
-    assert_eq!(rt; fault, bad(Redefined, 0), "a term twice");
     let fault = fault_of(alloc, 1, &[0, 1], &[Zero(2), Keep(0, 2)], &[2])?;
     assert_eq!(rt; fault, bad(WrongSort, 2), "the argument before the output");
     let fault = fault_of(alloc, 1, &[0, 1], &[Twice(4, 2, 3, 3)], &[3])?;
-    assert_eq!(rt;
-        fault,
-        bad(Undefined, 1),
-        "the argument before the target and the outputs"
-    );
+    assert_eq!(rt; fault, bad(Undefined, 1), "the argument before the target");
     let fault = fault_of(alloc, 1, &[0, 1], &[Twice(5, 5, 3, 3)], &[3])?;
     assert_eq!(rt; fault, bad(WrongSort, 1), "the target before the outputs");
     let fault = fault_of(alloc, 1, &[0, 1], &[Twice(5, 0, 3, 3)], &[3])?;
-    assert_eq!(rt;
-        fault,
-        bad(WrongCount, 1),
-        "the number of outputs before the outputs"
-    );
+    assert_eq!(rt; fault, bad(WrongCount, 1), "how many outputs before each");
+    Ok(())
+}
+
+#[test]
+fn finds_the_first_fault_of_branches(rt: HostRuntime) -> Result<(), Fail> {
+    use SortError::{BranchLacks, Redefined};
+    use Step::{Either, Eval, Zero};
+    let alloc = rt.alloc();
+    let lacks = [Eval(5, 0, 2), Either(3), Eval(5, 1, 3), Zero(4), Zero(2)];
+    let redefined = [Eval(5, 0, 2), Either(3), Eval(5, 1, 3), Zero(3), Zero(2)];
     let fault = fault_of(alloc, 1, &[0, 1], &lacks, &[3])?;
-    assert_eq!(rt;
-        fault,
-        bad(BranchLacks, 2),
-        "a branch lacks the exported variable"
-    );
+    assert_eq!(rt; fault, bad(BranchLacks, 2), "an export that a branch lacks");
     let fault = fault_of(alloc, 1, &[0, 1], &redefined, &[3])?;
     assert_eq!(rt; fault, bad(Redefined, 5), "defined before the branches");
+    Ok(())
+}
+
+#[test]
+fn finds_the_first_fault_of_a_rule(rt: HostRuntime) -> Result<(), Fail> {
+    use SortError::{Redefined, Undefined, WrongCount};
+    use Step::Zero;
+    let alloc = rt.alloc();
+    let fault = fault_of(alloc, 1, &[0, 1], &GOOD, &[4])?;
+    assert_eq!(rt; fault, None, "well sorted");
+    let fault = fault_of(alloc, 1, &[0], &GOOD, &[4])?;
+    assert_eq!(rt; fault, bad(WrongCount, 0), "a term too few");
+    let fault = fault_of(alloc, 1, &[0, 0], &GOOD, &[4])?;
+    assert_eq!(rt; fault, bad(Redefined, 0), "a term twice");
     let fault = fault_of(alloc, 1, &[0, 1], &[Zero(2)], &[3])?;
     assert_eq!(rt; fault, bad(Undefined, 2), "an output that isn't defined");
-    let fault = fault_of(alloc, 2, &[0, 1], &good, &[4])?;
-    let twice = SortFault::Bad {
-        why: SortError::DuplicateRule,
-        rule: 2,
-        bone: 0,
-    };
-    assert_eq!(rt; fault, Some(twice), "a second rule");
-    let fault = fault_of(alloc, 0, &[0, 1], &good, &[4])?;
-    let missing = SortFault::MissingRule {
-        hook: HookId(0),
-        con: ConId(1),
-    };
-    assert_eq!(rt; fault, Some(missing), "no rule for the second constructor");
     let fault = fault_of(alloc, 1, &[0, 1], &[Zero(6)], &[6])?;
     let outside = SortFault::Bad {
         why: Undefined,
@@ -204,5 +203,24 @@ fn finds_the_first_fault(rt: HostRuntime) -> Result<(), Fail> {
         bone: 0,
     };
     assert_eq!(rt; fault, Some(outside), "a variable that the rule hasn't");
+    Ok(())
+}
+
+#[test]
+fn finds_the_first_fault_of_the_rules(rt: HostRuntime) -> Result<(), Fail> {
+    let alloc = rt.alloc();
+    let fault = fault_of(alloc, 2, &[0, 1], &GOOD, &[4])?;
+    let twice = SortFault::Bad {
+        why: SortError::DuplicateRule,
+        rule: 2,
+        bone: 0,
+    };
+    assert_eq!(rt; fault, Some(twice), "a second rule");
+    let fault = fault_of(alloc, 0, &[0, 1], &GOOD, &[4])?;
+    let missing = SortFault::MissingRule {
+        hook: HookId(0),
+        con: ConId(1),
+    };
+    assert_eq!(rt; fault, Some(missing), "no rule for the second constructor");
     Ok(())
 }
