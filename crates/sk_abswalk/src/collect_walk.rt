@@ -12,12 +12,12 @@ use crate::collect::Collect;
 use crate::count::Steps;
 use crate::key_outputs::KeyOutputs;
 use crate::stop::Stop;
-use crate::walk::{close, start_env, start_sorts};
+use crate::walk::{close, start_env};
 use crate::world::World;
 use sk_base::{NoMemory, Seq};
 use sk_def::{Con, Hook, HookId, Rule};
 use sk_lattice::{AbsTuple, NumDom};
-use sk_sort::Checked;
+use sk_sort::{Checked, header_sorts};
 use sk_table::{Covers, Table};
 use sk_term::Arena;
 use sk_walk::{WalkStop, walk};
@@ -42,7 +42,7 @@ fn collect_rule<D: NumDom, T: KeyOutputs<D>>(
     ensures { Gathers (abstract_walk D.domain (by_key (T.by_key reading.old.outputs.now)) (setting_of reading.old.checked.now arena.now)
         (record { hook = id; point = reading.old.point; ins = ins.now })) reading.old.calls reading.new.calls result }
 {
-    let sorts = start_sorts(alloc, rule, hook, con)?;
+    let sorts = header_sorts(alloc, rule, hook, con)?;
     let env = start_env(alloc, arena, rule, reading.point, ins)?;
     let start = World {
         sorts,

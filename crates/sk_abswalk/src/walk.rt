@@ -1,8 +1,6 @@
 //! Walks through a rule that are answered from a table.
 ghost use Rattle.std.specs.Prelude.{◌≡◌, ◌<◌, ◌≤◌, length, IfOk};
-ghost use Rattle.sk_def.specs.Layout.{AreBelow};
 ghost use Rattle.sk_deriv.specs.Env.{bind_children, values_at};
-ghost use Rattle.sk_sort.specs.Rules.{header_sorts};
 ghost use Rattle.sk_term.specs.Program.{IsProgramOf, children_of_point};
 ghost use Rattle.sk_deriv.specs.Moves.{setting_of};
 ghost use Rattle.sk_abswalk.specs.Tables.{table_answer};
@@ -19,7 +17,7 @@ use crate::world::World;
 use sk_base::NoMemory;
 use sk_def::{Con, Hook, HookId, Rule, Var};
 use sk_lattice::{AbsTuple, NumDom};
-use sk_sort::{Checked, VarSorts, define_header, nothing};
+use sk_sort::{Checked, header_sorts};
 use sk_table::Table;
 use sk_term::Arena;
 use sk_walk::{WalkStop, walk};
@@ -52,24 +50,6 @@ pub(crate) fn start_env<D: NumDom>(
     put_children(arena, &mut env, point, rule.terms.as_slice());
     gain(alloc, &mut env, rule.inputs.as_slice(), ins)?;
     Ok(env)
-}
-
-/// The sorts of a rule's variables before its bones.
-pub(crate) fn start_sorts(
-    alloc: Global,
-    rule: &Rule,
-    hook: &Hook,
-    con: &Con,
-) -> Result<VarSorts, NoMemory>
-    requires terms_below { AreBelow (length rule.now.vars) rule.now.terms }
-    requires inputs_below { AreBelow (length rule.now.vars) rule.now.inputs }
-    requires terms_counted { length rule.now.terms ≡ length con.now.args }
-    requires inputs_counted { length rule.now.inputs ≡ length hook.now.inputs }
-    ensures { IfOk result (λ sorts. sorts ≡ header_sorts rule.now hook.now con.now) }
-{
-    let mut sorts = nothing(alloc, rule)?;
-    define_header(&mut sorts, rule, hook, con);
-    Ok(sorts)
 }
 
 /// The closing tuple of a rule, none where nothing gets there.
@@ -108,7 +88,7 @@ fn walk_rule<D: NumDom>(
     ensures { Gives (abstract_outputs D.domain (table_answer D.domain reading.old.table.now) (setting_of reading.old.checked.now arena.now)
         (record { hook = id; point = reading.old.point; ins = ins.now })) result }
 {
-    let sorts = start_sorts(alloc, rule, hook, con)?;
+    let sorts = header_sorts(alloc, rule, hook, con)?;
     let env = start_env(alloc, arena, rule, reading.point, ins)?;
     let start = World {
         sorts,

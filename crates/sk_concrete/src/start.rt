@@ -15,7 +15,7 @@ use crate::worlds::Worlds;
 use sk_base::{NoMemory, Seq};
 use sk_def::{Con, Hook, Rule, Var};
 use sk_deriv::Call;
-use sk_sort::{Checked, VarSorts, define_header, nothing};
+use sk_sort::{Checked, header_sorts};
 use sk_term::Arena;
 use std::alloc::Global;
 
@@ -65,19 +65,6 @@ fn bind_children(arena: &Arena, env: &mut Env, point: u16, terms: &[Var])
     }
 }
 
-/// The sorts of a rule's variables before its bones.
-fn start_sorts(alloc: Global, rule: &Rule, hook: &Hook, con: &Con) -> Result<VarSorts, NoMemory>
-    requires terms_below { AreBelow (length rule.now.vars) rule.now.terms }
-    requires inputs_below { AreBelow (length rule.now.vars) rule.now.inputs }
-    requires terms_counted { length rule.now.terms ≡ length con.now.args }
-    requires inputs_counted { length rule.now.inputs ≡ length hook.now.inputs }
-    ensures { IfOk result (λ sorts. sorts ≡ header_sorts rule.now hook.now con.now) }
-{
-    let mut sorts = nothing(alloc, rule)?;
-    define_header(&mut sorts, rule, hook, con);
-    Ok(sorts)
-}
-
 /// What the variables of a rule stand for before its bones.
 fn start_env(alloc: Global, arena: &Arena, rule: &Rule, call: &Call) -> Result<Env, NoMemory>
     requires point { call.now.point < length arena.now.nodes }
@@ -109,7 +96,7 @@ pub(crate) fn start(
     ensures sorts { IfOk result (λ worlds. worlds.sorts ≡ header_sorts rule.now hook.now con.now) }
     ensures list { IfOk result (λ worlds. worlds.list ≡ world_of (start_at arena.now.nodes rule.now call.now) ∷ []) }
 {
-    let sorts = start_sorts(alloc, rule, hook, con)?;
+    let sorts = header_sorts(alloc, rule, hook, con)?;
     let env = start_env(alloc, arena, rule, call)?;
     let mut list = Seq::new(alloc);
     let steps = Seq::new(alloc);

@@ -13,7 +13,7 @@ use crate::env::{PlaceEnv, empty_env, entry_of_child, gain};
 use crate::world::GenWorld;
 use sk_base::{NoMemory, Seq};
 use sk_def::{Con, Hook, HookId, Rule, Var};
-use sk_sort::{Checked, VarSorts, define_header, nothing};
+use sk_sort::{Checked, header_sorts};
 use sk_term::Arena;
 use std::alloc::Global;
 
@@ -60,19 +60,6 @@ fn bind_children(arena: &Arena, env: &mut PlaceEnv, point: u16, terms: &[Var])
     }
 }
 
-/// The sorts of a rule's variables before its bones.
-fn start_sorts(alloc: Global, rule: &Rule, hook: &Hook, con: &Con) -> Result<VarSorts, NoMemory>
-    requires terms_below { AreBelow (length rule.now.vars) rule.now.terms }
-    requires inputs_below { AreBelow (length rule.now.vars) rule.now.inputs }
-    requires terms_counted { length rule.now.terms ≡ length con.now.args }
-    requires inputs_counted { length rule.now.inputs ≡ length hook.now.inputs }
-    ensures { IfOk result (λ sorts. sorts ≡ header_sorts rule.now hook.now con.now) }
-{
-    let mut sorts = nothing(alloc, rule)?;
-    define_header(&mut sorts, rule, hook, con);
-    Ok(sorts)
-}
-
 /// What the variables of a rule stand for before its bones.
 fn start_env(alloc: Global, arena: &Arena, rule: &Rule, point: u16) -> Result<PlaceEnv, NoMemory>
     requires point { point < length arena.now.nodes }
@@ -106,7 +93,7 @@ pub(crate) fn start(
     ensures lines { IfOk result (λ world. world.lines ≡ []) }
     ensures positions { IfOk result (λ world. world.positions ≡ hook.now.inputs ∷ []) }
 {
-    let sorts = start_sorts(alloc, rule, hook, con)?;
+    let sorts = header_sorts(alloc, rule, hook, con)?;
     let env = start_env(alloc, arena, rule, point)?;
     let mut positions = Seq::new(alloc);
     positions.push(Seq::from_slice(alloc, hook.inputs.as_slice())?)?;

@@ -49,7 +49,7 @@ fn define_arguments(world: &mut VarSorts, variables: &[Var], sorts: &[ArgSort])
 }
 
 /// The sorts where no variable is defined.
-pub fn nothing(alloc: Global, rule: &Rule) -> Result<VarSorts, NoMemory>
+pub(crate) fn nothing(alloc: Global, rule: &Rule) -> Result<VarSorts, NoMemory>
     ensures { IfOk result (λ world. world ≡ nothing rule.now) }
 {
     let mut world = Seq::new(alloc);
@@ -96,7 +96,7 @@ pub fn check_header(
 }
 
 /// The header's variables take their sorts.
-pub fn define_header(world: &mut VarSorts, rule: &Rule, hook: &Hook, con: &Con)
+pub(crate) fn define_header(world: &mut VarSorts, rule: &Rule, hook: &Hook, con: &Con)
     requires undefined { world.old ≡ nothing rule.now }
     requires terms_below { AreBelow (length rule.now.vars) rule.now.terms }
     requires inputs_below { AreBelow (length rule.now.vars) rule.now.inputs }
@@ -106,4 +106,22 @@ pub fn define_header(world: &mut VarSorts, rule: &Rule, hook: &Hook, con: &Con)
 {
     define_arguments(world, rule.terms.as_slice(), con.args.as_slice());
     define_flows(world, rule.inputs.as_slice(), hook.inputs.as_slice());
+}
+
+/// The sorts of a rule's variables before its bones: those of the terms and of the inputs.
+pub fn header_sorts(
+    alloc: Global,
+    rule: &Rule,
+    hook: &Hook,
+    con: &Con,
+) -> Result<VarSorts, NoMemory>
+    requires terms_below { AreBelow (length rule.now.vars) rule.now.terms }
+    requires inputs_below { AreBelow (length rule.now.vars) rule.now.inputs }
+    requires terms_counted { length rule.now.terms ≡ length con.now.args }
+    requires inputs_counted { length rule.now.inputs ≡ length hook.now.inputs }
+    ensures { IfOk result (λ sorts. sorts ≡ header_sorts rule.now hook.now con.now) }
+{
+    let mut sorts = nothing(alloc, rule)?;
+    define_header(&mut sorts, rule, hook, con);
+    Ok(sorts)
 }

@@ -17,6 +17,6 @@ pub use checked::{Checked, check_sorts};
 pub use checks::VarSorts;
 pub use defines::{define_exports, define_flows, define_results};
 pub use error::{SortError, SortFault};
-pub use header::{define_header, nothing};
+pub use header::header_sorts;
 pub use interp::{SortInterp, SortStop};
 pub use laws::{bones_are_placed, hooks_have_rules, is_well_sorted_exactly, rules_are_sorted};
