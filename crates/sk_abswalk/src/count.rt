@@ -4,7 +4,7 @@ ghost use Rattle.std.specs.Prelude.{◌≡◌, ◌<◌, ◌+◌};
 use std::marker::Model;
 use std::sync::ledger::{Blank, Book, Ledger, Share};
 
-/// How many walks of calls were made. It takes no bytes, and only such a walk adds to it.
+/// How many walks of calls were made. It takes no bytes, and only this crate can add to it.
 #[derive(Drop)]
 pub struct Steps<L: Ledger> {
     book: Book<L>,

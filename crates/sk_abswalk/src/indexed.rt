@@ -12,8 +12,8 @@ use sk_table::{Cover, Table, Triple};
 use std::alloc::Global;
 use std::marker::Model;
 
-/// A table, and in a slot for each pair of a hook and a point the triples of that key, in the table's order. Contracts
-/// see the table.
+/// A table, and slots for pairs of a hook and a point: a slot has the triples of its key, in the table's order. Contracts
+/// see the table, and say nothing of how many slots there are.
 #[derive(Drop)]
 pub struct IndexedTable<'a, D: NumDom> {
     table: &'a Table<D>,
@@ -92,7 +92,7 @@ fn answer_among<D: NumDom>(
 }
 
 impl<'a, D: NumDom> IndexedTable<'a, D> {
-    /// Indexes a table by the keys of so many hooks and points, in one pass.
+    /// Indexes a table by the keys of so many hooks and points.
     pub fn of(
         alloc: Global,
         hooks: usize,

@@ -6,7 +6,7 @@ use sk_table::Covers;
 use sk_term::Arena;
 use std::alloc::Global;
 
-/// A program of a definition, the cover lines of a table, and the thresholds of its widenings.
+/// A program of a definition, cover lines, and the thresholds of the widenings.
 #[derive(Drop)]
 pub(crate) struct Job<'a, D: NumDom> {
     pub(crate) alloc: Global,

@@ -26,8 +26,8 @@ use sk_term::Arena;
 use std::alloc::Global;
 use std::sync::ledger::Ledger;
 
-/// A table that bounds all derivations from its cover lines, and how many rounds were made for it, the last of which
-/// changed nothing.
+/// A table, and how many rounds were made for it, the last of which changed nothing. That such a table is accepted is a
+/// clause of `analyse`.
 #[derive(Drop)]
 pub struct Analysis<D: NumDom> {
     pub table: Table<D>,
@@ -85,8 +85,8 @@ fn last_round<D: NumDom, L: Ledger>(
 }
 
 /// The table of the cover lines and of all calls of its keys: that at the first round that changes nothing, and the
-/// number of that round. Every call of a walk of one of its keys adds one to `steps`. It never gives up; fails only
-/// where memory is refused.
+/// number of that round. Its walks are counted in `steps`; how many there are no clause says. It never gives up; fails
+/// only where memory is refused.
 pub fn analyse<D: NumDom, L: Ledger>(
     alloc: Global,
     checked: &Checked,

@@ -68,7 +68,7 @@ impl<D: NumDom> Slots<D> {
         self.slots.put(place, side);
     }
 
-    /// Joins the inputs of a call into the side of its key. Where memory is refused nothing changes.
+    /// Joins the inputs of a call into the side of its key.
     pub(crate) fn hear(&mut self, alloc: Global, call: &Cover<D>) -> Result<(), NoMemory>
         requires few { self.old.hooks ≤ 8 }
         requires place { HasPlace self.old.hooks self.old.slots (key_of call.now) }

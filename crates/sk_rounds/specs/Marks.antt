@@ -28,7 +28,7 @@ is_changed w T U k s = not (side_leq w (U k s) (T k s))
 abbrev pub one_if : Bool → ℕ
 one_if b = if b then 1 else 0
 
--- the sides of keys that differ
+-- how many sides of keys differ
 abbrev pub changes_in : {K E : Type 0} → Walks K E → Differs K E → Table K E → Table K E → ℕ
 changes_in w differs T U = sum_by (λ k. one_if (differs T U k Inputs) + one_if (differs T U k Outputs)) w.keys
 
@@ -92,6 +92,6 @@ marked_after w = marked_run w (is_changed w) (round_step w) (all_marked (first_t
 abbrev pub walks : {K E : Type 0} → Walks K E → ℕ → ℕ
 walks w = walks_of w (is_changed w) (round_step w) (all_marked (first_table w))
 
--- the triples of a table
+-- how many triples a table has
 abbrev pub triples : {K E : Type 0} → Walks K E → Table K E → ℕ
 triples w T = count_by (λ k. is_some (T k Inputs)) w.keys

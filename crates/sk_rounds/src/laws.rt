@@ -25,7 +25,8 @@ pub fn table_laws<K, E>()
     ensures { (w : Walks K E) → WalksLaws w → TableLaws w }
 {}
 
-/// The laws can be met, and the rounds compute: one key that calls itself with one more, over the numbers up to 3.
+/// The laws of walks can be met, on a finite domain, and the rounds compute: one key that calls itself with one more,
+/// over the numbers up to 3.
 pub fn example_laws()
     ensures laws { WalksLaws counting }
     ensures third { table_after counting 3 0 Outputs ≡ Some 2 }

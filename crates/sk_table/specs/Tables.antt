@@ -74,11 +74,11 @@ unfoldable pub hook_word : {D : Type 0} → TableReading D → ℕ → Option (L
 hook_word state at None = refused Unexpected at
 hook_word state at (Some word) = if nat_lt (length state.triples) 32768 then hook_found state at (hook_named state.def word) else refused TooMany at
 
--- the hook of the triple that is being read, none before the first
+-- the hook of the triple that is being read; before the first triple the first hook, where there is one
 abbrev pub hook_of : {D : Type 0} → TableReading D → Option Hook
 hook_of state = slice_get state.def.hooks state.hook.0
 
--- the point of a sort that a number is
+-- whether a number is that of a point of the sort
 abbrev pub has_sort_at : Program → SortId → ℕ → Bool
 has_sort_at program wanted point = nat_lt point (length program.nodes) && option_map_or (λ (sort : SortId). sort.0 == wanted.0) (slice_get program.sorts point) false
 

@@ -30,7 +30,7 @@ impl<'a> Naming<'a> {
         }
     }
 
-    /// The names that new ones were added to, none where no others were known.
+    /// The names with those that were added; where none could be added, an empty list.
     pub(crate) fn added(self, alloc: Global) -> Names
         ensures { are_known self.entry ≡ false → result ≡ names_in self.entry }
     {

@@ -1,4 +1,4 @@
-//! Reading and printing a table.
+//! Reading a table.
 
 ghost use Rattle.std.specs.Prelude.{◌≡◌, ◌-◌, ◌^◌, ◌<◌, ◌++◌, length, All, Ok, IfOk};
 ghost use Rattle.sk_base.specs.Answer.{Gives};
