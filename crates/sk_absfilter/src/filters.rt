@@ -29,8 +29,8 @@ macro_rules! on {
 }
 
 /// What a filter gives on abstract arguments, over this number of names: a tuple that covers each of its results on
-/// what they cover. There is none where an argument or a part of the tuple is empty, and for arguments that aren't
-/// of its sorts.
+/// what they cover. There is none where an argument or a part of the tuple is empty, and where a filter that looks at its
+/// arguments finds them of other sorts.
 pub fn abs_apply<D: NumDom>(
     alloc: Global,
     filter: Filter,

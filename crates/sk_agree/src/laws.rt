@@ -5,8 +5,8 @@ use sk_absfilter::{filters_are_monotone, filters_keep_sorts};
 use sk_abswalk::{readings_are_walks, walks_are_proper, walks_fit};
 use sk_lattice::NumDom;
 
-/// Over every domain the table of an assignment that satisfies a program's constraints is accepted; on finite domains the
-/// analyser's table lies below it.
+/// Over every domain the sides of the keys in an assignment that satisfies a program's constraints are accepted by the
+/// rounds; on finite domains the analyser's table lies below them.
 pub fn solutions_are_above<D: NumDom>()
     ensures { SolutionsAreAbove D.domain D.FINITE }
 {
@@ -14,7 +14,8 @@ pub fn solutions_are_above<D: NumDom>()
     readings_are_walks::<D>();
 }
 
-/// Over every domain each accepted table is that of an assignment that satisfies the program's constraints.
+/// Over every domain each table that fits the program and is accepted by the rounds has the sides of an assignment that
+/// satisfies the program's constraints.
 pub fn accepted_are_solutions<D: NumDom>()
     ensures { AcceptedAreSolutions D.domain D.FINITE }
 {
@@ -23,7 +24,8 @@ pub fn accepted_are_solutions<D: NumDom>()
     walks_are_proper::<D>();
 }
 
-/// Over every domain the table of the least solution of a program's constraints is the least accepted one.
+/// Over every domain the sides of the least solution of a program's constraints are the least accepted table that fits the
+/// program.
 pub fn least_solutions_are_least<D: NumDom>()
     ensures { LeastSolutionsAreLeast D.domain D.FINITE }
 {

@@ -12,7 +12,7 @@ use sk_term::Arena;
 use sk_value::Tuple;
 use thiserror::Error;
 
-/// A job that was read. All its stores are over all names of the job.
+/// A job. In one that `read_job` gives all stores are over all names of the job.
 #[derive(Drop)]
 pub struct Job {
     /// The program, over all names of the job.
@@ -27,7 +27,8 @@ pub struct Job {
     pub interval: Covers<Interval>,
 }
 
-/// The call of a start line. The point is one of the hook's sort, and the inputs have the hook's sorts.
+/// The call of a start line. In a job that `read_job` gives the point is one of the hook's sort, and the inputs have the
+/// hook's sorts.
 #[derive(Drop)]
 pub struct Start {
     pub hook: HookId,

@@ -110,7 +110,7 @@ pub(crate) fn gain(env: &mut PlaceEnv, position: u8, variables: &[Var]) -> Resul
     ensures { OnOk result (env.new ≡ gain env.old variables.now (places_from position 0 variables.now)) }
 {
     for (place, variable) in variables.iter().enumerate() {
-        // a rule has at most 64 variables, so no entry has a greater number than a `u8` holds
+        // a list of variables has at most 8 entries, so each number is that of a `u8`
         let Ok(entry) = u8::try_from(place) else {
             return Err(NoMemory);
         };

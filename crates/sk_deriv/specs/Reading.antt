@@ -152,8 +152,8 @@ abbrev pub names_with : List (List ℕ) → Option (List ℕ) → List (List ℕ
 names_with names None = names
 names_with names (Some word) = option_map_or (λ (added : ℕ × List (List ℕ)). added.1) (with_name names word) names
 
--- the names that stand once a symbol was refused: those from before, since a word that is refused in a name's place is among
--- them already or has no place
+-- the names that stand once a symbol was refused: those from before, with the word where one was refused in a name's place;
+-- such a word is among them already or has no place, so they are those from before
 abbrev pub names_refused : Expected → Reading → Symbol → List (List ℕ)
 names_refused Open state symbol = state.names
 names_refused Item state symbol = state.names

@@ -99,7 +99,7 @@ results_of Filter.KeepStore names args = on (the_store args) (λ s. one (Flow.St
 results_of Filter.AnyBool names args = (Flow.Bool true ∷ []) ∷ (Flow.Bool false ∷ []) ∷ []
 results_of Filter.Pick names args = on_both (the_ints args) (λ a b. numbers (whole_results Arith.Pick a b))
 
--- whether a derivation picks one of a filter's results; any other filter has at most one
+-- whether a derivation picks one of a filter's results
 abbrev pub is_choice : Filter → Bool
 is_choice Filter.AnyBool = true
 is_choice Filter.Pick = true

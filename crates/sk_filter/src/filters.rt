@@ -26,7 +26,7 @@ macro_rules! on {
     };
 }
 
-/// Whether a derivation picks one of a filter's results; any other filter has at most one.
+/// Whether a derivation picks one of a filter's results.
 pub fn is_choice(filter: Filter) -> bool
     ensures { result ≡ is_choice filter }
 {

@@ -1,4 +1,4 @@
--- What covers nothing, and tuples of which no part does so.
+-- The empty one of each sort, which covers nothing, and tuples of which no part is empty.
 use Rattle.std.specs.Prelude.{◌≡◌, ◌≤◌, Bool, true, false, ◌&&◌, not, if◌then◌else◌, List, length}
 use Rattle.std.specs.List.{list_any, list_all}
 use Rattle.sk_lattice.specs.declared.value.AbsVal.{AbsVal}

@@ -55,7 +55,8 @@ impl<D: NumDom> AbsFlow<D> {
         }
     }
 
-    /// Whether nothing is covered.
+    /// Whether it is the empty one of its sort: no element, no truth value, neither of a val, or the empty store. A store that
+    /// isn't empty has cells, of which none is empty where it stands in a tuple.
     pub fn is_empty(&self) -> bool
         ensures { result ≡ flow_is_empty D.domain self.now }
     {

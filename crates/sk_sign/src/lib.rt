@@ -1,4 +1,4 @@
-//! The domain of signs: which of negative, zero and positive a number may be. Its operations are tables, and best.
+//! The domain of signs: which of negative, zero and positive a number may be. Its operations on numbers are best.
 #![tactic(auto)]
 
 ghost use Rattle.sk_sign.specs.Best.{SignsAreBest};

@@ -39,7 +39,7 @@ operand_value positions (Operand.Number z) = None
 operand_value positions (Operand.Name n) = None
 operand_value positions (Operand.At position entry) = flow_at positions position entry
 
--- what a line asks for by its operands: nothing where the position before it, or one of theirs, has none
+-- what a line asks for by its operands: nothing where the position before it has none, or an operand can't be read
 abbrev pub asked : {D X : Type 0} → (Operand → Option X) → Outcome D → List Operand → (List X → Bool) → Bool
 asked read before operands test = option_map_or test (option_and_then (λ (t : List (AbsFlow _)). all_of read operands) before) true
 

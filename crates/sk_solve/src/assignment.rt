@@ -18,7 +18,7 @@ pub struct Solved<D: NumDom> {
     pub outs: Option<AbsTuple<D>>,
 }
 
-/// An assignment: one entry for each key, in the order of the keys. Contracts see the list.
+/// An assignment: entries of keys, in order. Contracts see the list. That of `solve` has one for each key of its list.
 #[derive(Drop)]
 pub struct Assignment<D: NumDom> {
     entries: Seq<Solved<D>>,

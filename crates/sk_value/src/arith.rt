@@ -1,7 +1,7 @@
 //! The operations on whole numbers that filters and domains share.
 ghost use Rattle.sk_value.specs.Numbers.{ResultsAreGiven};
 
-/// The operations that give numbers; `Pick` gives the numbers between two.
+/// The operations that give numbers. `Pick` gives the numbers from one to another, both included, where these are few.
 #[derive(Clone, Copy, Debug, PartialEq, Eq)]
 pub enum Arith {
     Add,
