@@ -1,5 +1,5 @@
 -- What a command does with the outside: it reads files one after another, each as the ones before say, and then writes a text.
-use Rattle.std.specs.Prelude.{◌≡◌, ◌⊎◌, ℕ, ◌+◌, ◌<◌, ◌≤◌, IsTrue, IsFalse, IfSome, List, length, Some}
+use Rattle.std.specs.Prelude.{◌≡◌, ◌⊎◌, ⊤, ℕ, ◌+◌, ◌<◌, ◌≤◌, IsTrue, IsFalse, IfSome, List, length, Some}
 use Rattle.sk_base.specs.Files.{Folder, Progress, read_once, turn_after}
 use Rattle.sk_bench.specs.declared.status.Ending.{Ending}
 use Rattle.sk_bench.specs.Asked.{Asked, IsAnswer, Means}
@@ -52,6 +52,14 @@ Stops folder Q now was (Read name limit next) =
     (Q name limit × (now ≡ turn_after was))
     ⊎ ((bytes : List ℕ) × Agrees folder name bytes × (length bytes ≤ limit) × Stops folder Q now (turn_after was) (next bytes))
 Stops folder Q now was (WriteAnswer asked) = ⊥
+
+-- any file
+abbrev pub IsAny : List ℕ → ℕ → Type 0
+IsAny name limit = ⊤
+
+-- the plan was given up: as many files were selected as had their turn, and none that had no turn
+abbrev pub IsGivenUp : Folder → ℕ → ℕ → Plan → Type 0
+IsGivenUp folder now was plan = (now ≡ was) ⊎ Stops folder IsAny now was plan
 
 -- each file whose turn comes has bytes of which P holds, within its limit, and every text with which the plan may end has at
 -- most so many bytes

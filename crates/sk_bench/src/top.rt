@@ -4,7 +4,7 @@ ghost use Rattle.sk_base.specs.Causes.{Rose, NeverFalls};
 ghost use Rattle.sk_base.specs.Files.{progress_of};
 ghost use Rattle.sk_bench.specs.declared.status.Ending.{Ending};
 ghost use Rattle.sk_bench.specs.Status.{status_of};
-ghost use Rattle.sk_bench.specs.Plan.{Stops, IsShaky, GaveTooMuch};
+ghost use Rattle.sk_bench.specs.Plan.{Stops, IsShaky, GaveTooMuch, IsGivenUp};
 ghost use Rattle.sk_bench.specs.Commands.{planned, plan_of, word_at};
 ghost use Rattle.sk_bench.specs.Words.{command_of};
 ghost use Rattle.sk_bench.specs.Following.{Follows};
@@ -50,6 +50,10 @@ pub fn workbench<F: Files, S: Sink>(
     ensures write_fault { result ≡ Status.WriteFault → Rose (S.faults sink.old) (S.faults sink.new) }
     ensures prefix { result ≡ Status.WriteFault → IfSome (planned (map string_bytes words.now)) (λ plan.
         WritesPrefix (F.folder files.old) (progress_of (F.selection files.new)) (progress_of (F.selection files.old)) plan (S.room sink.old) (S.written sink.old) (S.written sink.new)) }
+
+    // Where memory is refused no file was selected that hadn't its turn.
+    ensures given_up { result ≡ Status.NoMemory →
+        IfSome (planned (map string_bytes words.now)) (λ plan. IsGivenUp (F.folder files.old) (F.selection files.new).turns (F.selection files.old).turns plan) }
 
     // Nothing was put.
     ensures silent { IsOneOf result (Status.Usage ∷ Status.ReadFault ∷ Status.TooLong ∷ Status.NoMemory ∷ []) → sink.new ≡ sink.old }
