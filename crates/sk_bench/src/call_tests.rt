@@ -90,8 +90,8 @@ fn a_choice_has_seven_positions(rt: HostRuntime) -> Result<(), Fail> {
     let job = job(alloc, &checked, "job 1 program toss() cover sign go 0 ()")?;
     let assignment = solution(alloc, &checked, &job)?;
     assert_eq!(rt; assignment.len(), 1);
-    for solved in assignment.as_slice() {
-        let text = solved_text(alloc, &job.names, solved)?;
+    for at in 0..assignment.len() {
+        let text = solved_text(alloc, &job.names, assignment.get(at))?;
         let wanted = "() (any) (pos) () (pos) () (pos) (pos)";
         assert_eq!(rt; str::from_utf8(text.as_slice()), Ok(wanted));
     }
