@@ -173,10 +173,17 @@ fn files_of_the_system_are_read(rt: HostRuntime) -> Result<(), Fail> {
         ("poem", 7, Ok(7)),
         ("poem", 6, Err(FileFault::TooLong)),
         ("other", 6, Err(FileFault::Failed)),
+        ("", 6, Err(FileFault::Failed)),
+        // A folder is opened, but can't be read.
+        (".", 6, Err(FileFault::Failed)),
     ] {
         let length = read_file(alloc, &mut files, name, limit).map(|read| read.len());
         assert_eq!(rt; length, wanted, "{name} up to {limit}");
     }
+    // Where a file can't be opened none is selected.
+    assert_eq!(rt; files.select("poem"), Ok(()));
+    assert_eq!(rt; files.select("other"), Err(Failed));
+    assert_eq!(rt; files.pull(&mut [0; 7]), Ok(0));
     Ok(())
 }
 

@@ -97,7 +97,7 @@ impl Def {
         Some(HookId(place as u8))
     }
 
-    /// The name of a hook of the definition.
+    /// The name of a hook of the definition, empty where it has no such hook.
     pub fn hook_name(&self, hook: HookId) -> &[u8]
         ensures { result.now ≡ hook_name self.now hook }
     {

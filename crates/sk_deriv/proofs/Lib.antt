@@ -17,4 +17,5 @@ pub mod LeastSubtrees
 pub mod FirstOfEach
 pub mod TupleNames
 pub mod TupleShapes
+pub mod TupleStops
 pub mod TupleTurns

@@ -29,6 +29,12 @@ OnRefusal (Err (Bad error)) P = P
 OnRefusal (Err NoMemory) P = ⊤
 OnRefusal (Ok value) P = ⊤
 
+-- it holds after want of memory
+abbrev pub OnStarved : {A : Type 0} → Result A Refusal → Type 0 → Type 0
+OnStarved (Err (Bad error)) P = ⊤
+OnStarved (Err NoMemory) P = P
+OnStarved (Ok value) P = ⊤
+
 abbrev pub OnFault : {A : Type 0} → Result A TupleFault → Type 0 → Type 0
 OnFault (Err (fault.Bad error at)) P = P
 OnFault (Err fault.NoMemory) P = ⊤

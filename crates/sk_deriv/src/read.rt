@@ -2,6 +2,7 @@
 
 ghost use Rattle.std.specs.Prelude.{◌≡◌, ◌<◌, ◌≤◌, drop, length, IsTrue, IfOk};
 ghost use Rattle.sk_base.specs.Answer.{Gives};
+ghost use Rattle.sk_lex.specs.Run.{IsFrontOf};
 ghost use Rattle.sk_lex.specs.Symbols.{symbols};
 ghost use Rattle.sk_lex.specs.Tokens.{tokens_of};
 ghost use Rattle.sk_lex.specs.Turns.{bad_of as refused_of, OnAnswer};
@@ -38,6 +39,7 @@ fn read_with<'a>(
     ensures values { IfOk result.0 (λ at. IsRead sorts.now from at result.1) }
     ensures grown { HasGrown names result.1.names }
     ensures names { OnAnswer result.0 (result.1.names ≡ names_at_stop sorts.now names from (drop from (symbols text.now tokens.now))) }
+    ensures front { IsFrontOf result.1.names (names_at_stop sorts.now names from (drop from (symbols text.now tokens.now))) }
 {
     let mut reader = TupleReader::new(alloc, sorts, names);
     let end = read_on(
@@ -65,9 +67,10 @@ fn tuple_of(alloc: Global, flows: Vec<Flow>) -> Result<Tuple, NoMemory>
 
 /// Reads one tuple of values of these sorts, at most 4, from a place of the tokens on, and answers it with the place of
 /// the next token. A store has one place per name that stands afterwards; the names in it are added to the names, also
-/// those before a refusal. A refusal has the place of its token, which is the number of tokens at the end of the text:
-/// `Unexpected` where the token fits no case, `WrongCount` at a `)` too early or a `,` after the last value,
-/// `TooManyNames` at the 65th different name, `Duplicate` at a name's second place in a store. `UnknownName` never comes.
+/// those before a refusal; where memory is refused the first ones of them are. A refusal has the place of its token,
+/// which is the number of tokens at the end of the text: `Unexpected` where the token fits no case, `WrongCount` at a
+/// `)` too early or a `,` after the last value, `TooManyNames` at the 65th different name, `Duplicate` at a name's
+/// second place in a store. `UnknownName` never comes.
 #[tactic(auto, unfolding(crate::specs::Reading::read_tuple))]
 pub fn read_tuple(
     alloc: Global,
@@ -88,6 +91,9 @@ pub fn read_tuple(
 
     // After a refusal the names are those that stood and those read before the refused token.
     ensures refused { OnFault result (names.new ≡ names_at_stop sorts.now names.old from (drop from (symbols text.now tokens.now))) }
+
+    // Whatever comes, those that stand are the first of these: where memory is refused, those that were read until then.
+    ensures front { IsFrontOf names.new (names_at_stop sorts.now names.old from (drop from (symbols text.now tokens.now))) }
 {
     let (end, reader) = read_with(
         alloc,

@@ -6,7 +6,7 @@ ghost use Rattle.sk_base.specs.Answer.{Gives};
 ghost use Rattle.sk_lex.specs.Symbols.{symbol, IsShort, word_of, number_of};
 ghost use Rattle.sk_value.specs.Padding.{padded_store};
 ghost use Rattle.sk_value.specs.declared.flow.Flow.{Flow};
-ghost use Rattle.sk_deriv.specs.Meets.{error_of, flow_holds_numbers, HoldsNumbers, Keeps, OnRefusal};
+ghost use Rattle.sk_deriv.specs.Meets.{error_of, flow_holds_numbers, HoldsNumbers, Keeps, OnRefusal, OnStarved};
 ghost use Rattle.sk_deriv.specs.Reading as spec;
 ghost use Rattle.sk_deriv.specs.Reading.{Reading, turn_to, nothing, tuple_rules, next_sort, truth_of, value_of, is_set, with_value, given, names_of, names_refused, names_with};
 
@@ -121,6 +121,7 @@ fn give(reader: &mut TupleReader, flow: Option<Flow>) -> Met
     ensures gives { Gives (λ next. turn_to reader.new next.now) error_of result (given reader.old flow) }
     ensures kept { Keeps reader.old reader.new }
     ensures names { OnRefusal result (reader.new.names ≡ reader.old.names) }
+    ensures starved { OnStarved result (reader.new.names ≡ reader.old.names) }
     ensures within { OnOk result (HoldsNumbers reader.new) }
 {
     let Some(flow) = flow else {
@@ -137,6 +138,7 @@ fn value(reader: &mut TupleReader, wanted: FlowSort, lexeme: Lexeme) -> Met
     ensures gives { Gives (λ next. turn_to reader.new next.now) error_of result (spec.value reader.old wanted (symbol lexeme.entry)) }
     ensures kept { Keeps reader.old reader.new }
     ensures names { OnRefusal result (reader.new.names ≡ reader.old.names) }
+    ensures starved { OnStarved result (reader.new.names ≡ reader.old.names) }
     ensures within { OnOk result (HoldsNumbers reader.new) }
 {
     match wanted {
@@ -178,6 +180,7 @@ fn item(reader: &mut TupleReader, wanted: Option<FlowSort>, lexeme: Lexeme) -> M
     ensures gives { Gives (λ next. turn_to reader.new next.now) error_of result (spec.item reader.old wanted (symbol lexeme.entry)) }
     ensures kept { Keeps reader.old reader.new }
     ensures names { OnRefusal result (reader.new.names ≡ reader.old.names) }
+    ensures starved { OnStarved result (reader.new.names ≡ reader.old.names) }
     ensures within { OnOk result (HoldsNumbers reader.new) }
 {
     let Some(wanted) = wanted else {
@@ -212,6 +215,7 @@ fn end_store(alloc: Global, reader: &mut TupleReader) -> Met
     ensures gives { Gives (λ next. turn_to reader.new next.now) error_of result (spec.met (spec.ended reader.old) []) }
     ensures kept { Keeps reader.old reader.new }
     ensures names { OnRefusal result (reader.new.names ≡ reader.old.names) }
+    ensures starved { OnStarved result (reader.new.names ≡ reader.old.names) }
     ensures within { OnOk result (HoldsNumbers reader.new) }
 {
     let store = reader.store.take(alloc);
@@ -227,6 +231,7 @@ fn name(alloc: Global, reader: &mut TupleReader, lexeme: Lexeme) -> Met
     ensures gives { Gives (λ next. turn_to reader.new next.now) error_of result (spec.name reader.old (word_of (symbol lexeme.entry))) }
     ensures kept { Keeps reader.old reader.new }
     ensures names { OnRefusal result (reader.new.names ≡ names_with reader.old.names (word_of (symbol lexeme.entry))) }
+    ensures starved { OnStarved result (reader.new.names ≡ reader.old.names) }
     ensures within { OnOk result (HoldsNumbers reader.new) }
 {
     let Some(word) = lexeme.word() else {
@@ -252,6 +257,7 @@ fn first_name(alloc: Global, reader: &mut TupleReader, lexeme: Lexeme) -> Met
     ensures gives { Gives (λ next. turn_to reader.new next.now) error_of result (spec.first_name reader.old (symbol lexeme.entry)) }
     ensures kept { Keeps reader.old reader.new }
     ensures names { OnRefusal result (reader.new.names ≡ names_with reader.old.names (word_of (symbol lexeme.entry))) }
+    ensures starved { OnStarved result (reader.new.names ≡ reader.old.names) }
     ensures within { OnOk result (HoldsNumbers reader.new) }
 {
     if lexeme.is_right_brace() {
@@ -268,6 +274,7 @@ fn after_name(alloc: Global, reader: &mut TupleReader, lexeme: Lexeme) -> Met
     ensures gives { Gives (λ next. turn_to reader.new next.now) error_of result (spec.after_name reader.old (symbol lexeme.entry)) }
     ensures kept { Keeps reader.old reader.new }
     ensures names { OnRefusal result (reader.new.names ≡ reader.old.names) }
+    ensures starved { OnStarved result (reader.new.names ≡ reader.old.names) }
     ensures within { OnOk result (HoldsNumbers reader.new) }
 {
     if lexeme.is_comma() {
@@ -286,6 +293,7 @@ fn set_to(reader: &mut TupleReader, lexeme: Lexeme) -> Met
     ensures gives { Gives (λ next. turn_to reader.new next.now) error_of result (spec.set_to reader.old (value_of (symbol lexeme.entry))) }
     ensures kept { Keeps reader.old reader.new }
     ensures names { OnRefusal result (reader.new.names ≡ reader.old.names) }
+    ensures starved { OnStarved result (reader.new.names ≡ reader.old.names) }
     ensures within { OnOk result (HoldsNumbers reader.new) }
 {
     let Some(value) = value_at(lexeme) else {
@@ -314,6 +322,7 @@ fn step(alloc: Global, reader: &mut TupleReader, expected: Expected, lexeme: Lex
     ensures gives { Gives (λ next. turn_to reader.new next.now) error_of result (spec.step reader.old expected (symbol lexeme.entry)) }
     ensures kept { Keeps reader.old reader.new }
     ensures names { OnRefusal result (reader.new.names ≡ names_refused expected reader.old (symbol lexeme.entry)) }
+    ensures starved { OnStarved result (reader.new.names ≡ reader.old.names) }
     ensures within { OnOk result (HoldsNumbers reader.new) }
 {
     let wanted = reader.next_sort();
@@ -344,6 +353,7 @@ impl<'a> Reader for TupleReader<'a> {
 
     ghost names_refused = { names_refused };
 
+    #[tactic(auto, using(crate::proofs::TupleStops::still_front))]
     fn meet(
         &mut self,
         alloc: Global,

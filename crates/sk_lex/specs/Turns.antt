@@ -25,3 +25,9 @@ abbrev pub OnBad : {A Code : Type 0} → Result A (Refused Code) → Type 0 → 
 OnBad (Err (Bad code at)) P = P
 OnBad (Err NoMemory) P = ⊤
 OnBad (Ok value) P = ⊤
+
+-- it holds after want of memory
+abbrev pub OnStarved : {A Code : Type 0} → Result A (Refused Code) → Type 0 → Type 0
+OnStarved (Err (Bad code at)) P = ⊤
+OnStarved (Err NoMemory) P = P
+OnStarved (Ok value) P = ⊤

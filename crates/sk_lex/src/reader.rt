@@ -3,10 +3,10 @@
 ghost use Rattle.std.specs.Prelude.{◌≡◌, ℕ, List, ◌+◌, ◌<◌, ◌≤◌, ◌∷◌, ◌++◌, drop, length, Ok, IfOk, OnOk};
 ghost use Rattle.std.specs.List.{list_all};
 ghost use Rattle.sk_base.specs.Answer.{Gives};
-ghost use Rattle.sk_lex.specs.Run.{Rules, at_end, run, run_whole, shown_at_stop};
+ghost use Rattle.sk_lex.specs.Run.{IsFrontOf, Rules, ShownGrows, at_end, run, run_whole, shown_at_stop, shown_next};
 ghost use Rattle.sk_lex.specs.Symbols.{Symbol, symbols, symbol, IsShort};
 ghost use Rattle.sk_lex.specs.Tokens.{tokens_of};
-ghost use Rattle.sk_lex.specs.Turns.{turn_of, bad_of, OnAnswer, OnBad};
+ghost use Rattle.sk_lex.specs.Turns.{turn_of, bad_of, OnAnswer, OnBad, OnStarved};
 
 use crate::lexeme::{Lexeme, expect, lexeme_at};
 use crate::token::Token;
@@ -85,7 +85,8 @@ pub trait Reader {
         ensures taken { IfOk result (λ taken. at + 1 + taken.more ≤ length tokens.now) }
         ensures within { OnOk result (within self.new) }
         ensures kept { (begun : Self) → keeps begun self.old → keeps begun self.new }
-        ensures names { OnBad result (names self.new ≡ names_refused expected self.old (symbol lexeme.entry)) };
+        ensures names { OnBad result (names self.new ≡ names_refused expected self.old (symbol lexeme.entry)) }
+        ensures starved { OnStarved result (IsFrontOf (names self.new) (shown_next rules names_refused names expected self.old at (symbol lexeme.entry) (drop (at + 1) (symbols text.now tokens.now)))) };
 
     /// Whether the text may end where this is expected.
     fn may_end(expected: Self::Expected) -> bool
@@ -124,8 +125,8 @@ fn end_text<R: Reader>(
 }
 
 /// Reads on from a place of a text's tokens until nothing more is expected, and answers the place of the next token.
-/// The reader then holds what was read; after a refusal it holds what its grammar keeps, with the names that were read
-/// up to there.
+/// The reader then holds what was read; after a refusal with a code it holds what its grammar keeps, with the names that
+/// were read up to there; where memory is refused, with a front of these names.
 pub fn read_on<R: Reader>(
     alloc: Global,
     reader: &mut R,
@@ -142,6 +143,7 @@ pub fn read_on<R: Reader>(
     ensures within { OnOk result (R.within reader.new) }
     ensures kept { (begun : R) → R.keeps begun reader.old → R.keeps begun reader.new }
     ensures names { OnAnswer result (R.names reader.new ≡ shown_at_stop R.rules R.names_refused R.names 0 from start.now reader.old (drop from (symbols text.now tokens.now))) }
+    ensures front { ShownGrows R.rules R.names_refused R.names → IsFrontOf (R.names reader.new) (shown_at_stop R.rules R.names_refused R.names 0 from start.now reader.old (drop from (symbols text.now tokens.now))) }
 {
     let mut stack = Stack::new(alloc);
     expect(&mut stack, start)?;

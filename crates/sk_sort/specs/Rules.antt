@@ -1,4 +1,4 @@
--- The parts of a rule, and the first fault of a definition.
+-- The parts of a rule, and its checks.
 use Rattle.std.specs.Prelude.{◌≡◌, ◌+◌, not, ◌==◌, List, [], ◌∷◌, ◌++◌, length, map, Option, Some, None, Result, slice_get}
 use Rattle.std.specs.List.{list_any, enumerate_from}
 use Rattle.std.specs.List.Sorted.{IsPermutation}

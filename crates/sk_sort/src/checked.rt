@@ -37,7 +37,8 @@ impl Checked {
 
 /// Checks the sorts of a definition. `Bad` is the first check that fails, in the order of the text;
 /// `MissingRule` comes only where none fails. A definition that is past its limits, or has a number that
-/// isn't of its lists, is `Undefined` at the header of its first rule. One with a fault is dropped.
+/// isn't of its lists, is `Undefined` at the header of its first rule, or of rule 0 where it has none. One with a fault is
+/// dropped.
 pub fn check_sorts(alloc: Global, def: Def) -> Result<Checked, SortFault>
     ensures answers { AnswersFault (first_fault def) result }
     ensures same { IfOk result (λ checked. checked ≡ def) }

@@ -5,6 +5,7 @@ pub mod Said
 pub mod Spelled
 pub mod TupleNames
 pub mod TupleShapes
+pub mod TupleStops
 pub mod TupleTurns
 pub mod TupleParts
 pub mod TupleReturned

@@ -30,11 +30,6 @@ bad_of (fault.Bad error place) = Some (error, place)
 bad_of fault.NoMemory = None
 
 -- it holds after a refusal with an error
-abbrev pub OnRefusal : {A : Type 0} → Result A Refusal → Type 0 → Type 0
-OnRefusal (Err (Bad error)) P = P
-OnRefusal (Err NoMemory) P = ⊤
-OnRefusal (Ok value) P = ⊤
-
 abbrev pub OnFault : {A : Type 0} → Result A TableFault → Type 0 → Type 0
 OnFault (Err (fault.Bad error place)) P = P
 OnFault (Err fault.NoMemory) P = ⊤

@@ -1,9 +1,9 @@
 //! The names that a tuple may speak of.
 
-ghost use Rattle.std.specs.Prelude.{◌≡◌, ◌<◌, ◌≤◌, length, true, false};
+ghost use Rattle.std.specs.Prelude.{◌≡◌, ◌<◌, ◌≤◌, length, true, false, OnErr};
 ghost use Rattle.sk_base.specs.Answer.{Gives};
 ghost use Rattle.sk_term.specs.Meets.{HasGrown};
-ghost use Rattle.sk_table.specs.Meets.{are_known, error_of, names_in, OnRefusal};
+ghost use Rattle.sk_table.specs.Meets.{are_known, error_of, names_in};
 ghost use Rattle.sk_table.specs.Tuples.{place_for};
 
 use crate::fault::{Refusal, TableError};
@@ -47,7 +47,7 @@ impl<'a> Naming<'a> {
         ensures gives { Gives (λ place. (place, names_in self.new)) error_of result (place_for (are_known self.old) (names_in self.old) word.now) }
         ensures known { are_known self.new ≡ are_known self.old }
         ensures grown { HasGrown (names_in self.old) (names_in self.new) }
-        ensures refused { OnRefusal result (names_in self.new ≡ names_in self.old) }
+        ensures refused { OnErr result (names_in self.new ≡ names_in self.old) }
         ensures same { are_known self.old ≡ true → names_in self.new ≡ names_in self.old }
     {
         let word = Ident::of(alloc, word)?;

@@ -10,8 +10,7 @@ use crate::triple::{Table, Triple};
 use sk_base::{Names, NoMemory};
 use sk_def::Def;
 use sk_lattice::{AbsTuple, NumDom};
-use sk_lex::put_number;
-use sk_value::put_bytes;
+use sk_value::{put_bytes, put_number};
 use std::alloc::Global;
 
 /// Appends the line before the triples.

@@ -5,6 +5,7 @@ ghost use Rattle.std.specs.List.{list_all, list_any};
 ghost use Rattle.sk_base.specs.Answer.{Gives};
 ghost use Rattle.sk_lattice.specs.Empty.{flow_is_empty};
 ghost use Rattle.sk_lattice.specs.Shapes.{has_sorts};
+ghost use Rattle.sk_lex.specs.Run.{IsFrontOf};
 ghost use Rattle.sk_lex.specs.Symbols.{symbols};
 ghost use Rattle.sk_lex.specs.Tokens.{tokens_of};
 ghost use Rattle.sk_lex.specs.Turns.{bad_of as refused_of, OnAnswer};
@@ -49,6 +50,7 @@ fn read_with<'a, D: NumDom>(
     ensures known { result.1.known ≡ are_known naming.entry }
     ensures grown { HasGrown (names_in naming.entry) result.1.names }
     ensures names { OnAnswer result.0 (result.1.names ≡ names_at_stop D.domain D.texts (are_known naming.entry) sorts.now (names_in naming.entry) from (drop from (symbols text.now tokens.now))) }
+    ensures front { IsFrontOf result.1.names (names_at_stop D.domain D.texts (are_known naming.entry) sorts.now (names_in naming.entry) from (drop from (symbols text.now tokens.now))) }
     ensures same { are_known naming.entry ≡ true → result.1.names ≡ names_in naming.entry }
 {
     let mut reader = TupleReader::new(alloc, sorts, naming);
@@ -122,6 +124,7 @@ pub(crate) fn read_at<'a, D: NumDom>(
     ensures known { are_known result.1 ≡ are_known naming.entry }
     ensures grown { HasGrown (names_in naming.entry) (names_in result.1) }
     ensures names { OnAnswer result.0 (names_in result.1 ≡ names_at_stop D.domain D.texts (are_known naming.entry) sorts.now (names_in naming.entry) from (drop from (symbols text.now tokens.now))) }
+    ensures front { IsFrontOf (names_in result.1) (names_at_stop D.domain D.texts (are_known naming.entry) sorts.now (names_in naming.entry) from (drop from (symbols text.now tokens.now))) }
     ensures same { are_known naming.entry ≡ true → names_in result.1 ≡ names_in naming.entry }
 {
     let (end, reader) = read_with(alloc, sorts, text, tokens, from, naming);
@@ -169,6 +172,7 @@ pub fn take_abs_tuple<D: NumDom>(
     ensures place { IfOk result (λ read. (from < read.1) × (read.1 ≤ length tokens.now)) }
     ensures grown { HasGrown names.old names.new }
     ensures refused { OnAnswer result (names.new ≡ names_at_stop D.domain D.texts false sorts.now names.old from (drop from (symbols text.now tokens.now))) }
+    ensures front { IsFrontOf names.new (names_at_stop D.domain D.texts false sorts.now names.old from (drop from (symbols text.now tokens.now))) }
 {
     let naming = Naming::Adding(mem::replace(names, Names::new(alloc)));
     let (read, naming) = read_at(alloc, sorts, text, tokens, from, naming);
@@ -178,9 +182,10 @@ pub fn take_abs_tuple<D: NumDom>(
 
 /// Reads one abstract tuple of these sorts, at most 4, from a place of the tokens on, and answers it with the place of
 /// the next token. A store has one cell per name that stands afterwards; the names in it are added to the names, also
-/// those before a refusal. A refusal has the line and the column of its token: `Unexpected` where the token fits no
-/// case, `WrongCount` at a `)` too early or a `,` after the last value, `TooManyNames` at the 65th different name,
-/// `Duplicate` at a name's second place in a store, `Empty` at the `(` of a tuple with an empty component.
+/// those before a refusal; where memory is refused the first ones of them are. A refusal has the line and the column of
+/// its token: `Unexpected` where the token fits no case, `WrongCount` at a `)` too early or a `,` after the last value,
+/// `TooManyNames` at the 65th different name, `Duplicate` at a name's second place in a store, `Empty` at the `(` of a
+/// tuple with an empty component.
 pub fn read_abs_tuple<D: NumDom>(
     alloc: Global,
     sorts: &FlowSorts,
@@ -201,6 +206,9 @@ pub fn read_abs_tuple<D: NumDom>(
 
     // After a refusal the names are those that stood and those read before the refused token.
     ensures refused { OnFault result (names.new ≡ names_at_stop D.domain D.texts false sorts.now names.old from (drop from (symbols text.now tokens.now))) }
+
+    // Whatever comes, those that stand are the first of these: where memory is refused, those that were read until then.
+    ensures front { IsFrontOf names.new (names_at_stop D.domain D.texts false sorts.now names.old from (drop from (symbols text.now tokens.now))) }
 {
     match take_abs_tuple(alloc, sorts, names, text, tokens, from) {
         Ok(read) => Ok(read),

@@ -5,7 +5,7 @@ ghost use Rattle.sk_base.specs.Answer.{Gives};
 ghost use Rattle.sk_lex.specs.Symbols.{symbol, symbols, IsShort, word_of};
 ghost use Rattle.sk_lex.specs.Tokens.{tokens_of};
 ghost use Rattle.sk_lex.specs.declared.reader.Refused.TheVariants as refused;
-ghost use Rattle.sk_lex.specs.Turns.{turn_of, bad_of, OnBad};
+ghost use Rattle.sk_lex.specs.Turns.{turn_of, bad_of, OnBad, OnStarved};
 ghost use Rattle.sk_lattice.specs.Padding.{unset_cell};
 ghost use Rattle.sk_table.specs.Meets.{are_known, Keeps, names_in};
 ghost use Rattle.sk_lattice.specs.declared.flow.AbsFlow.TheVariants as flow;
@@ -142,6 +142,7 @@ fn take<D: NumDom>(
 fn give<D: NumDom>(reader: &mut TupleReader<D>, flow: AbsFlow<D>) -> Result<(), NoMemory>
     ensures pushed { OnOk result (reader.new ≡ with_flow reader.old flow) }
     ensures kept { Keeps reader.old reader.new }
+    ensures names { reader.new.names ≡ reader.old.names }
 {
     reader.flows.push(flow)?;
     Ok(())
@@ -152,6 +153,7 @@ fn truths<D: NumDom>(reader: &mut TupleReader<D>, lexeme: Lexeme, at: usize) -> 
     ensures gives { Gives (λ taken. turn_of reader.new taken) bad_of result (spec.truths reader.old at (truths_of (symbol lexeme.entry))) }
     ensures kept { Keeps reader.old reader.new }
     ensures names { OnBad result (reader.new.names ≡ reader.old.names) }
+    ensures starved { OnStarved result (reader.new.names ≡ reader.old.names) }
     ensures alone { IfOk result (λ taken. taken.more ≡ 0) }
 {
     let Some(set) = truths_at(lexeme) else {
@@ -177,6 +179,7 @@ fn begin_store<D: NumDom>(reader: &mut TupleReader<D>, lexeme: Lexeme, at: usize
     ensures gives { Gives (λ taken. turn_of reader.new taken) bad_of result (spec.begun reader.old at (symbol lexeme.entry)) }
     ensures kept { Keeps reader.old reader.new }
     ensures names { OnBad result (reader.new.names ≡ reader.old.names) }
+    ensures starved { OnStarved result (reader.new.names ≡ reader.old.names) }
     ensures alone { IfOk result (λ taken. taken.more ≡ 0) }
 {
     if lexeme.is_left_brace() {
@@ -196,6 +199,7 @@ fn int<D: NumDom>(reader: &mut TupleReader<D>, text: &[u8], tokens: &[Token], at
     ensures gives { Gives (λ taken. turn_of reader.new taken) bad_of result (with_element (λ element. with_flow reader.old (flow.Int element)) (expected.After ∷ []) (element_at D.texts at (drop at (symbols text.now tokens.now)))) }
     ensures kept { Keeps reader.old reader.new }
     ensures names { OnBad result (reader.new.names ≡ reader.old.names) }
+    ensures starved { OnStarved result (reader.new.names ≡ reader.old.names) }
     ensures taken { IfOk result (λ taken. at + 1 + taken.more ≤ length tokens.now) }
 {
     let (element, more) = take(text, tokens, at)?;
@@ -219,6 +223,7 @@ fn number<D: NumDom>(
     ensures gives { Gives (λ taken. turn_of reader.new taken) bad_of result (with_element (with_num reader.old) expected.entry.now (element_at D.texts at (drop at (symbols text.now tokens.now)))) }
     ensures kept { Keeps reader.old reader.new }
     ensures names { OnBad result (reader.new.names ≡ reader.old.names) }
+    ensures starved { OnStarved result (reader.new.names ≡ reader.old.names) }
     ensures taken { IfOk result (λ taken. at + 1 + taken.more ≤ length tokens.now) }
 {
     let (element, more) = take(text, tokens, at)?;
@@ -242,6 +247,7 @@ fn value<D: NumDom>(
     ensures gives { Gives (λ taken. turn_of reader.new taken) bad_of result (spec.value D.texts reader.old wanted at (symbol lexeme.entry) (drop (at + 1) (symbols text.now tokens.now))) }
     ensures kept { Keeps reader.old reader.new }
     ensures names { OnBad result (reader.new.names ≡ reader.old.names) }
+    ensures starved { OnStarved result (reader.new.names ≡ reader.old.names) }
     ensures taken { IfOk result (λ taken. at + 1 + taken.more ≤ length tokens.now) }
 {
     match wanted {
@@ -288,6 +294,7 @@ fn item<D: NumDom>(
     ensures gives { Gives (λ taken. turn_of reader.new taken) bad_of result (spec.item D.texts reader.old wanted at (symbol lexeme.entry) (drop (at + 1) (symbols text.now tokens.now))) }
     ensures kept { Keeps reader.old reader.new }
     ensures names { OnBad result (reader.new.names ≡ reader.old.names) }
+    ensures starved { OnStarved result (reader.new.names ≡ reader.old.names) }
     ensures taken { IfOk result (λ taken. at + 1 + taken.more ≤ length tokens.now) }
 {
     let Some(wanted) = wanted else {
@@ -323,6 +330,7 @@ fn val_truth<D: NumDom>(reader: &mut TupleReader<D>, lexeme: Lexeme, at: usize) 
     ensures gives { Gives (λ taken. turn_of reader.new taken) bad_of result (spec.val_truth reader.old at (truths_of (symbol lexeme.entry))) }
     ensures kept { Keeps reader.old reader.new }
     ensures names { OnBad result (reader.new.names ≡ reader.old.names) }
+    ensures starved { OnStarved result (reader.new.names ≡ reader.old.names) }
     ensures alone { IfOk result (λ taken. taken.more ≡ 0) }
 {
     let Some(truth) = truths_at(lexeme) else {
@@ -342,6 +350,7 @@ fn cell_truth<D: NumDom>(reader: &mut TupleReader<D>, lexeme: Lexeme, at: usize)
     ensures gives { Gives (λ taken. turn_of reader.new taken) bad_of result (spec.cell_truth reader.old at (truths_of (symbol lexeme.entry))) }
     ensures kept { Keeps reader.old reader.new }
     ensures names { OnBad result (reader.new.names ≡ reader.old.names) }
+    ensures starved { OnStarved result (reader.new.names ≡ reader.old.names) }
     ensures alone { IfOk result (λ taken. taken.more ≡ 0) }
 {
     let Some(truth) = truths_at(lexeme) else {
@@ -370,6 +379,7 @@ fn end_store<D: NumDom>(alloc: Global, reader: &mut TupleReader<D>) -> Met
     ensures gives { Gives (λ taken. turn_of reader.new taken) bad_of result (spec.met (ended D.domain reader.old) []) }
     ensures kept { Keeps reader.old reader.new }
     ensures names { OnBad result (reader.new.names ≡ reader.old.names) }
+    ensures starved { OnStarved result (reader.new.names ≡ reader.old.names) }
     ensures alone { IfOk result (λ taken. taken.more ≡ 0) }
 {
     let cells = all_cells(alloc, reader.cells.take(alloc).as_slice())?;
@@ -401,6 +411,7 @@ fn widen<D: NumDom>(cells: &mut Seq<Option<AbsCell<D>>>, names: usize) -> Result
 fn set_cell<D: NumDom>(reader: &mut TupleReader<D>, unset: bool) -> Result<(), NoMemory>
     ensures set { OnOk result (reader.new ≡ with_cell reader.old unset) }
     ensures kept { Keeps reader.old reader.new }
+    ensures names { reader.new.names ≡ reader.old.names }
 {
     let place = usize::from(reader.name);
     let val = AbsVal {
@@ -419,6 +430,7 @@ fn name<D: NumDom>(alloc: Global, reader: &mut TupleReader<D>, lexeme: Lexeme, a
     ensures gives { Gives (λ taken. turn_of reader.new taken) bad_of result (spec.name reader.old at (word_of (symbol lexeme.entry))) }
     ensures kept { Keeps reader.old reader.new }
     ensures names { OnBad result (reader.new.names ≡ names_with reader.old.known reader.old.names (word_of (symbol lexeme.entry))) }
+    ensures starved { OnStarved result (reader.new.names ≡ reader.old.names) }
     ensures alone { IfOk result (λ taken. taken.more ≡ 0) }
 {
     let Some(word) = lexeme.word() else {
@@ -454,6 +466,7 @@ fn first_name<D: NumDom>(
     ensures gives { Gives (λ taken. turn_of reader.new taken) bad_of result (spec.first_name D.domain reader.old at (symbol lexeme.entry)) }
     ensures kept { Keeps reader.old reader.new }
     ensures names { OnBad result (reader.new.names ≡ names_with reader.old.known reader.old.names (word_of (symbol lexeme.entry))) }
+    ensures starved { OnStarved result (reader.new.names ≡ reader.old.names) }
     ensures alone { IfOk result (λ taken. taken.more ≡ 0) }
 {
     if lexeme.is_right_brace() {
@@ -474,6 +487,7 @@ fn after_name<D: NumDom>(
     ensures gives { Gives (λ taken. turn_of reader.new taken) bad_of result (spec.after_name D.domain reader.old at (symbol lexeme.entry)) }
     ensures kept { Keeps reader.old reader.new }
     ensures names { OnBad result (reader.new.names ≡ reader.old.names) }
+    ensures starved { OnStarved result (reader.new.names ≡ reader.old.names) }
     ensures alone { IfOk result (λ taken. taken.more ≡ 0) }
 {
     if lexeme.is_comma() {
@@ -491,6 +505,7 @@ fn mark<D: NumDom>(alloc: Global, reader: &mut TupleReader<D>, lexeme: Lexeme, a
     ensures gives { Gives (λ taken. turn_of reader.new taken) bad_of result (spec.mark D.domain reader.old at (symbol lexeme.entry)) }
     ensures kept { Keeps reader.old reader.new }
     ensures names { OnBad result (reader.new.names ≡ reader.old.names) }
+    ensures starved { OnStarved result (reader.new.names ≡ reader.old.names) }
     ensures alone { IfOk result (λ taken. taken.more ≡ 0) }
 {
     if lexeme.is_question() {
@@ -531,6 +546,7 @@ fn step<D: NumDom>(
     ensures gives { Gives (λ taken. turn_of reader.new taken) bad_of result (spec.step D.domain D.texts reader.old expected at (symbol lexeme.entry) (drop (at + 1) (symbols text.now tokens.now))) }
     ensures kept { Keeps reader.old reader.new }
     ensures names { OnBad result (reader.new.names ≡ names_refused expected reader.old (symbol lexeme.entry)) }
+    ensures starved { OnStarved result (reader.new.names ≡ reader.old.names) }
     ensures taken { IfOk result (λ taken. at + 1 + taken.more ≤ length tokens.now) }
 {
     let wanted = reader.next_sort();
@@ -565,6 +581,7 @@ impl<'a, D: NumDom> Reader for TupleReader<'a, D> {
 
     ghost names_refused = { names_refused };
 
+    #[tactic(auto, using(crate::proofs::TupleStops::still_front))]
     fn meet(
         &mut self,
         alloc: Global,

@@ -5,7 +5,7 @@ use Rattle.sk_term.specs.Meets.{HasGrown, Keeps}
 use Rattle.sk_term.specs.Reading.{Reading, nothing}
 use Rattle.sk_def.specs.declared.def.Def.{Def}
 
-grown_more : {a b c : List (List ℕ)} → HasGrown a b → HasGrown b c → HasGrown a c
+pub grown_more : {a b c : List (List ℕ)} → HasGrown a b → HasGrown b c → HasGrown a c
 grown_more {a = a} g h = record { added = g.added ++ h.added; is = h.is ∙ ap (λ xs. xs ++ h.added) g.is ∙ append_assoc a g.added h.added }
 
 pub keeps_more : {a b c : Reading} → Keeps a b → Keeps b c → Keeps a c

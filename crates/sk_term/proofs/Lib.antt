@@ -1,9 +1,14 @@
 pub mod Entries
+pub mod Forms
 pub mod Grown
 pub mod Keys
 pub mod Nodes
+pub mod OnlyTerms
 pub mod Programs
 pub mod Reached
 pub mod Runs
+pub mod Spelled
 pub mod Steps
+pub mod Stops
 pub mod Turns
+pub mod Words

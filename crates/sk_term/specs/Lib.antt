@@ -1,4 +1,5 @@
 pub mod Meets
 pub mod Program
 pub mod Reading
+pub mod Spelling
 pub mod Terms

@@ -12,7 +12,7 @@ mod reader;
 
 pub use arena::Arena;
 pub use fault::{TermError, TermFault};
-pub use laws::leaves_are_literals;
+pub use laws::{leaves_are_literals, only_terms_are_read, terms_are_read_exactly};
 pub use node::{Child, TermNode};
 pub use read::read_term;
 

@@ -2,6 +2,7 @@
 
 ghost use Rattle.std.specs.Prelude.{◌≡◌, ◌≤◌, drop, length, IfOk, OnOk, Ok};
 ghost use Rattle.sk_base.specs.Answer.{Gives};
+ghost use Rattle.sk_lex.specs.Run.{IsFrontOf};
 ghost use Rattle.sk_lex.specs.Symbols.{symbols};
 ghost use Rattle.sk_lex.specs.Tokens.{tokens_of};
 ghost use Rattle.sk_lex.specs.Turns.{bad_of as refused_of, OnAnswer};
@@ -38,6 +39,7 @@ fn read_with<'a>(
     ensures term { OnOk result.0 (AreOfSortedTerm def.now result.1.nodes result.1.literals (length result.1.names)) }
     ensures grown { HasGrown names result.1.names }
     ensures names { OnAnswer result.0 (result.1.names ≡ names_at_stop def.now names from (drop from (symbols text.now tokens.now))) }
+    ensures front { IsFrontOf result.1.names (names_at_stop def.now names from (drop from (symbols text.now tokens.now))) }
 {
     let mut reader = TermReader::new(alloc, def, names);
     let end = read_on(alloc, &mut reader, &[Expected::Root], text, tokens, from);
@@ -45,9 +47,9 @@ fn read_with<'a>(
 }
 
 /// Reads one term from a place of the tokens on, and answers its program and the place of the next token. The words in
-/// name positions are added to the names, also those before a refusal; where memory is refused the names only grow. A
-/// refusal has the place of its token, which is the number of tokens at the end of the text: `Unexpected` where the token
-/// fits no case, `UnknownConstructor` at a word that names none, `WrongSort` at a constructor of another sort,
+/// name positions are added to the names, also those before a refusal; where memory is refused the first ones of them are.
+/// A refusal has the place of its token, which is the number of tokens at the end of the text: `Unexpected` where the
+/// token fits no case, `UnknownConstructor` at a word that names none, `WrongSort` at a constructor of another sort,
 /// `WrongCount` at a `)` too early or a `,` after the last argument, `TooManyPoints` at the 4,097th constructor,
 /// `TooManyNames` at the 65th different name.
 #[tactic(auto, unfolding(crate::specs::Reading::read_term))]
@@ -71,6 +73,9 @@ pub fn read_term(
 
     // After a refusal the names are those that stood and those read before the refused token.
     ensures refused { OnFault result (names.new ≡ names_at_stop def.now names.old from (drop from (symbols text.now tokens.now))) }
+
+    // Whatever comes, those that stand are the first of these: where memory is refused, those that were read until then.
+    ensures front { IsFrontOf names.new (names_at_stop def.now names.old from (drop from (symbols text.now tokens.now))) }
 {
     let (end, reader) = read_with(
         alloc,

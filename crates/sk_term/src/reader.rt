@@ -5,7 +5,7 @@ ghost use Rattle.sk_base.specs.Answer.{Gives};
 ghost use Rattle.sk_def.specs.declared.def.Def.{Def};
 ghost use Rattle.sk_lex.specs.Symbols.{symbol, IsShort, word_of, number_of};
 ghost use Rattle.sk_term.specs.Reading as spec;
-ghost use Rattle.sk_term.specs.Meets.{error_of, HasGrown, IsWithin, Keeps, OnRefusal};
+ghost use Rattle.sk_term.specs.Meets.{error_of, HasGrown, IsWithin, Keeps, OnRefusal, OnStarved, StandAt};
 ghost use Rattle.sk_term.specs.Reading.{Reading, turn_to, nothing, begun, ended, term_rules, names_of, names_refused, with_child, has_sort, next_sort};
 ghost use Rattle.sk_term.specs.Terms.{arguments_of, sort_of_con};
 
@@ -94,6 +94,7 @@ fn give(unclosed: &mut Stack<OpenTerm>, child: Child) -> Result<(), NoMemory>
 fn begin(alloc: Global, reader: &mut TermReader, con: ConId) -> Result<(), NoMemory>
     ensures begun { OnOk result (reader.new ≡ begun con reader.old) }
     ensures kept { Keeps reader.old reader.new }
+    ensures names { reader.new.names ≡ reader.old.names }
 {
     let point = reader.nodes.len();
     reader.nodes.push(TermNode {
@@ -154,12 +155,13 @@ fn constructor(
 }
 
 /// The constructor of the whole program.
-#[tactic(auto, unfolding(crate::specs::Reading::root))]
+#[tactic(auto, using(crate::proofs::Stops::stood, crate::proofs::Stops::unmoved), unfolding(crate::specs::Reading::root))]
 fn root(alloc: Global, reader: &mut TermReader, lexeme: Lexeme) -> Met
     requires within { IsWithin reader.old }
     ensures gives { Gives (λ next. turn_to reader.new next.now) error_of result (spec.root reader.old (word_of (symbol lexeme.entry))) }
     ensures kept { Keeps reader.old reader.new }
     ensures names { OnRefusal result (reader.new.names ≡ reader.old.names) }
+    ensures starved { OnStarved result (StandAt reader.new.names reader.old.names (spec.root reader.old (word_of (symbol lexeme.entry)))) }
 {
     let Some(word) = lexeme.word() else {
         return Err(Refusal::Bad(TermError::Unexpected));
@@ -170,12 +172,13 @@ fn root(alloc: Global, reader: &mut TermReader, lexeme: Lexeme) -> Met
 }
 
 /// A subterm of a sort, whose point is the next.
-#[tactic(auto, unfolding(crate::specs::Reading::subterm))]
+#[tactic(auto, using(crate::proofs::Stops::stood, crate::proofs::Stops::unmoved), unfolding(crate::specs::Reading::subterm))]
 fn subterm(alloc: Global, reader: &mut TermReader, wanted: SortId, lexeme: Lexeme) -> Met
     requires within { IsWithin reader.old }
     ensures gives { Gives (λ next. turn_to reader.new next.now) error_of result (spec.subterm reader.old wanted (word_of (symbol lexeme.entry))) }
     ensures kept { Keeps reader.old reader.new }
     ensures names { OnRefusal result (reader.new.names ≡ reader.old.names) }
+    ensures starved { OnStarved result (StandAt reader.new.names reader.old.names (spec.subterm reader.old wanted (word_of (symbol lexeme.entry)))) }
 {
     let Some(word) = lexeme.word() else {
         return Err(Refusal::Bad(TermError::Unexpected));
@@ -188,11 +191,12 @@ fn subterm(alloc: Global, reader: &mut TermReader, wanted: SortId, lexeme: Lexem
 }
 
 /// A number in a number's place.
-#[tactic(auto, unfolding(crate::specs::Reading::number))]
+#[tactic(auto, using(crate::proofs::Stops::stood, crate::proofs::Stops::unmoved), unfolding(crate::specs::Reading::number))]
 fn number(reader: &mut TermReader, lexeme: Lexeme) -> Met
     ensures gives { Gives (λ next. turn_to reader.new next.now) error_of result (spec.number reader.old (number_of (symbol lexeme.entry))) }
     ensures kept { Keeps reader.old reader.new }
     ensures names { OnRefusal result (reader.new.names ≡ reader.old.names) }
+    ensures starved { OnStarved result (StandAt reader.new.names reader.old.names (spec.number reader.old (number_of (symbol lexeme.entry)))) }
 {
     let Some(value) = lexeme.number() else {
         return Err(Refusal::Bad(TermError::Unexpected));
@@ -203,12 +207,13 @@ fn number(reader: &mut TermReader, lexeme: Lexeme) -> Met
 }
 
 /// Any word in a name's place.
-#[tactic(auto, unfolding(crate::specs::Reading::name))]
+#[tactic(auto, using(crate::proofs::Stops::name_comes, crate::proofs::Stops::stood, crate::proofs::Stops::unmoved, crate::proofs::Stops::word_comes), unfolding(crate::specs::Reading::name))]
 fn name(alloc: Global, reader: &mut TermReader, lexeme: Lexeme) -> Met
     requires word { IsShort lexeme }
     ensures gives { Gives (λ next. turn_to reader.new next.now) error_of result (spec.name reader.old (word_of (symbol lexeme.entry))) }
     ensures kept { Keeps reader.old reader.new }
     ensures names { OnRefusal result (reader.new.names ≡ reader.old.names) }
+    ensures starved { OnStarved result (StandAt reader.new.names reader.old.names (spec.name reader.old (word_of (symbol lexeme.entry)))) }
 {
     let Some(word) = lexeme.word() else {
         return Err(Refusal::Bad(TermError::Unexpected));
@@ -230,6 +235,7 @@ fn argument(alloc: Global, reader: &mut TermReader, wanted: ArgSort, lexeme: Lex
     ensures gives { Gives (λ next. turn_to reader.new next.now) error_of result (spec.argument reader.old wanted (symbol lexeme.entry)) }
     ensures kept { Keeps reader.old reader.new }
     ensures names { OnRefusal result (reader.new.names ≡ reader.old.names) }
+    ensures starved { OnStarved result (StandAt reader.new.names reader.old.names (spec.argument reader.old wanted (symbol lexeme.entry))) }
 {
     match wanted {
         ArgSort::Number => number(reader, lexeme),
@@ -257,6 +263,7 @@ fn first(alloc: Global, reader: &mut TermReader, wanted: Option<ArgSort>, lexeme
     ensures gives { Gives (λ next. turn_to reader.new next.now) error_of result (spec.first reader.old wanted (symbol lexeme.entry)) }
     ensures kept { Keeps reader.old reader.new }
     ensures names { OnRefusal result (reader.new.names ≡ reader.old.names) }
+    ensures starved { OnStarved result (StandAt reader.new.names reader.old.names (spec.first reader.old wanted (symbol lexeme.entry))) }
 {
     let Some(wanted) = wanted else {
         return close(reader, lexeme);
@@ -272,6 +279,7 @@ fn close(reader: &mut TermReader, lexeme: Lexeme) -> Met
     ensures gives { Gives (λ next. turn_to reader.new next.now) error_of result (spec.closing reader.old (symbol lexeme.entry)) }
     ensures kept { Keeps reader.old reader.new }
     ensures names { OnRefusal result (reader.new.names ≡ reader.old.names) }
+    ensures starved { OnStarved result (StandAt reader.new.names reader.old.names (spec.closing reader.old (symbol lexeme.entry))) }
 {
     if !lexeme.is_close() {
         return Err(Refusal::Bad(TermError::Unexpected));
@@ -286,6 +294,7 @@ fn after(reader: &mut TermReader, wanted: Option<ArgSort>, lexeme: Lexeme) -> Me
     ensures gives { Gives (λ next. turn_to reader.new next.now) error_of result (spec.after reader.old wanted (symbol lexeme.entry)) }
     ensures kept { Keeps reader.old reader.new }
     ensures names { OnRefusal result (reader.new.names ≡ reader.old.names) }
+    ensures starved { OnStarved result (StandAt reader.new.names reader.old.names (spec.after reader.old wanted (symbol lexeme.entry))) }
 {
     let Some(_) = wanted else {
         if lexeme.is_comma() {
@@ -310,6 +319,7 @@ fn next(alloc: Global, reader: &mut TermReader, wanted: Option<ArgSort>, lexeme:
     ensures gives { Gives (λ next. turn_to reader.new next.now) error_of result (spec.next reader.old wanted (symbol lexeme.entry)) }
     ensures kept { Keeps reader.old reader.new }
     ensures names { OnRefusal result (reader.new.names ≡ reader.old.names) }
+    ensures starved { OnStarved result (StandAt reader.new.names reader.old.names (spec.next reader.old wanted (symbol lexeme.entry))) }
 {
     let Some(wanted) = wanted else {
         return Err(Refusal::Bad(TermError::Unexpected));
@@ -318,13 +328,14 @@ fn next(alloc: Global, reader: &mut TermReader, wanted: Option<ArgSort>, lexeme:
 }
 
 /// What a token is where this is expected.
-#[tactic(auto, unfolding(crate::specs::Reading::step))]
+#[tactic(auto, using(crate::proofs::Stops::stood), unfolding(crate::specs::Reading::step))]
 fn step(alloc: Global, reader: &mut TermReader, expected: Expected, lexeme: Lexeme) -> Met
     requires within { IsWithin reader.old }
     requires word { IsShort lexeme }
     ensures gives { Gives (λ next. turn_to reader.new next.now) error_of result (spec.step reader.old expected (symbol lexeme.entry)) }
     ensures kept { Keeps reader.old reader.new }
     ensures names { OnRefusal result (reader.new.names ≡ reader.old.names) }
+    ensures starved { OnStarved result (StandAt reader.new.names reader.old.names (spec.step reader.old expected (symbol lexeme.entry))) }
 {
     let wanted = reader.next_sort();
     match expected {
@@ -351,6 +362,7 @@ impl<'a> Reader for TermReader<'a> {
 
     ghost names_refused = { names_refused };
 
+    #[tactic(auto, using(crate::proofs::Stops::still_front))]
     fn meet(
         &mut self,
         alloc: Global,

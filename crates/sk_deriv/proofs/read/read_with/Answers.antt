@@ -1,6 +1,7 @@
 use Rattle.std.proofs.Common.{drop}
 use Rattle.sk_lex.specs.Symbols.{symbols}
 use Rattle.sk_deriv.proofs.TupleNames.{keeps_self, same_sorts, grown_since}
+use Rattle.sk_deriv.proofs.TupleStops.{front_from, names_grow}
 use Rattle.sk_deriv.proofs.TupleTurns.{read_by, is_read}
 use Rattle.sk_deriv.proofs.read.read_with.Goals as goal
 
@@ -14,3 +15,6 @@ returns-clause-values c =
 
 pub returns-clause-grown : goal.returns-clause-grown
 returns-clause-grown c = grown_since c.new-reader.ensures (c.read_on-end.ensures.kept c.new-reader.result (keeps_self c.new-reader.result))
+
+pub returns-clause-front : goal.returns-clause-front
+returns-clause-front c = front_from c.args.from (drop c.args.from (symbols c.args.text.now c.args.tokens.now)) c.new-reader.ensures (c.read_on-end.ensures.front names_grow)
