@@ -2,6 +2,7 @@ pub mod Relations
 pub mod Environments
 pub mod Bones
 pub mod Sound
+pub mod Meets
 pub mod Agreement
 pub mod Bounds
 pub mod WalkOrder

@@ -1,6 +1,7 @@
 pub mod Walk
 pub mod Tables
 pub mod Order
+pub mod Answered
 pub mod Meaning
 pub mod Verdict
 pub mod Fits

@@ -5,6 +5,7 @@ ghost use Rattle.sk_abswalk.specs.Walk.{AbsEnv};
 ghost use Rattle.sk_abswalk.specs.Tables.{AcceptedAreSound};
 ghost use Rattle.sk_abswalk.specs.Order.{WalksAreMonotone, WalksAgree, BoundsDoNotMatter, WalksAreProper};
 ghost use Rattle.sk_abswalk.specs.Fits.{WalksFit, AnswersOfTablesFit};
+ghost use Rattle.sk_abswalk.specs.Answered.{AnswersAreMeets, AnswersAreMonotone};
 ghost use Rattle.sk_abswalk.specs.Meaning.{Reader, WalkerWalks};
 
 use sk_absfilter::{filters_are_monotone, filters_are_sound};
@@ -55,4 +56,15 @@ pub fn walks_fit<D: NumDom>()
 /// Over every domain, what a table that fits answers to calls that fit has the sorts of the hooks' outputs.
 pub fn answers_of_tables_fit<D: NumDom>()
     ensures { AnswersOfTablesFit D.domain }
+{}
+
+/// Over every domain, a table answers a call just where a triple is above it, with the greatest of what lies below the
+/// outputs of all triples above it, in whatever order they stand.
+pub fn answers_are_meets<D: NumDom>()
+    ensures { AnswersAreMeets D.domain }
+{}
+
+/// Over every domain, a table answers lesser calls with lesser outputs.
+pub fn answers_are_monotone<D: NumDom>()
+    ensures { AnswersAreMonotone D.domain }
 {}

@@ -29,8 +29,9 @@ pub use from_table::FromTable;
 pub use indexed::IndexedTable;
 pub use key_outputs::KeyOutputs;
 pub use laws::{
-    accepted_tables_are_sound, answers_of_tables_fit, bounds_do_not_matter, walker_walks,
-    walks_agree, walks_are_monotone, walks_are_proper, walks_fit,
+    accepted_tables_are_sound, answers_are_meets, answers_are_monotone, answers_of_tables_fit,
+    bounds_do_not_matter, walker_walks, walks_agree, walks_are_monotone, walks_are_proper,
+    walks_fit,
 };
 pub use round_laws::{analysed_tables_are_accepted, readings_are_walks, readings_ask};
 pub use stop::{FromStop, Stop};
