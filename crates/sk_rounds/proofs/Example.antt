@@ -1,10 +1,13 @@
 -- One key that calls itself with one more, over the numbers up to 3: the laws can be met, and the rounds compute.
-use Rattle.std.proofs.Common.{◌≡◌, ◌≢◌, ℕ, zero, suc, ◌<◌, ◌≤◌, min, max, true, Option, Some, None, refl, arith}
+use Rattle.std.proofs.Common.{◌≡◌, ◌≢◌, ℕ, zero, suc, ◌<◌, ◌≤◌, min, max, Bool, true, false, Option, Some, None, count_by, refl, ap, sym, arith}
+use lib.Dec.{eqb}
 use Rattle.std.proofs.lemmas.Bool.{eqb-true, eq-eqb, leb-true, le-leb, false≢true}
 use Rattle.sk_rounds.specs.Walks.{Outputs, side_leq, FitSide, OrderLaws, WidenLaws, WalkLaws, WalksLaws}
 use Rattle.sk_rounds.specs.Rounds.{table_after, IsAnalysed}
 use Rattle.sk_rounds.specs.Laws.{RoundsLaws}
-use Rattle.sk_rounds.specs.Example.{with_answer, counting}
+use Rattle.sk_rounds.specs.Marks.{CallerLaws}
+use Rattle.sk_rounds.specs.SecondPhase.{MeetLaws}
+use Rattle.sk_rounds.specs.Example.{with_answer, counting, counting_callers, lesser}
 use Rattle.sk_rounds.proofs.Ending.{rounds_laws}
 
 order_laws : OrderLaws counting
@@ -72,3 +75,26 @@ counting_ends = record { last = 4; is_last = record { still = counted.decided 4;
     earlier (suc (suc zero)) lt = counted.decided 2
     earlier (suc (suc (suc zero))) lt = counted.decided 3
     earlier (suc (suc (suc (suc r)))) lt = absurd (omega arith)
+
+one_key : (b : Bool) → count_by (λ (j : ℕ). b) counting.keys ≤ 1
+one_key true = omega arith
+one_key false = omega arith
+
+pub caller_laws : CallerLaws counting counting_callers
+caller_laws =
+    record {
+      gives_alike = λ answers others k a h. ap (λ x. Some (with_answer a x)) (sym h.0);
+      calls_alike = λ answers others k a h. refl;
+      may_calls = λ answers k a. (refl, tt);
+      few_callers = λ k. one_key (eqb k 0);
+      some_caller = omega arith;
+    }
+
+pub meet_laws : MeetLaws counting lesser
+meet_laws =
+    record {
+      meet_left = λ k p a b f g. le-leb (min a b) a (omega arith);
+      meet_right = λ k p a b f g. le-leb (min a b) b (omega arith);
+      meet_greatest = λ k p a b c f g h le ge. le-leb c (min a b) (omega (arith, leb-true c a le, leb-true c b ge));
+      meet_fits = λ k p a b f g. le-leb (min a b) 3 (omega (arith, leb-true a 3 f, leb-true b 3 g));
+    }

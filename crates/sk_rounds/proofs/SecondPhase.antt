@@ -233,6 +233,7 @@ module _ (K E : Type 0) (w : Walks K E) (laws : WalksLaws w) where
           lowest = λ last h. find_lowest (table_after w last) (after_good K E w laws last) (last_accepted K E w laws last h) 47 0 (omega arith) (λ m lt. absurd (omega arith));
           lowered_decided = λ last r h. lowered_decided (table_after w last) (after_good K E w laws last) (last_accepted K E w laws last h) r;
           climb_ends = λ last down h. outputs_end (lowered w (table_after w last) down) (low last down);
+          fits = λ last down again h. met_fits (lowered w (table_after w last) down) (outputs_after w (lowered w (table_after w last) down) again) (low last down).fits (outputs_fit (lowered w (table_after w last) down) (low last down).fits again);
           accepted = λ last down again h e. met_accepted (lowered w (table_after w last) down) (low last down) (lowered_accepted (table_after w last) (after_good K E w laws last) (last_accepted K E w laws last h) down) again e;
           below = λ last down again h.
               lies_trans K E w laws (met_outputs meet (lowered w (table_after w last) down) (outputs_after w (lowered w (table_after w last) down) again)) (lowered w (table_after w last) down) (table_after w last)

@@ -2,6 +2,8 @@
 use Rattle.std.specs.Prelude.{ℕ, suc, ◌-◌, min, max, true, [], ◌∷◌, Option, Some, None}
 use lib.Dec.{eqb, leb}
 use Rattle.sk_rounds.specs.Walks.{Walks}
+use Rattle.sk_rounds.specs.Marks.{Callers}
+use Rattle.sk_rounds.specs.SecondPhase.{Meet}
 
 -- the greater of a number and an answer
 abbrev pub with_answer : ℕ → Option ℕ → ℕ
@@ -24,3 +26,11 @@ counting =
       rank = λ a. 3 - a;
       cap = 4;
     }
+
+-- the key is called by itself alone
+abbrev pub counting_callers : Callers ℕ
+counting_callers = record { may_call = λ j k. eqb k 0; most_callers = 1 }
+
+-- the meet of two numbers is the lesser
+abbrev pub lesser : Meet ℕ
+lesser a b = Some (min a b)

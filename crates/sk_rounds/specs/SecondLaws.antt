@@ -1,6 +1,6 @@
 -- What holds of marked rounds and of the second phase.
 use Rattle.std.specs.Prelude.{◌≡◌, ◌≢◌, MatchBool, ℕ, suc, ◌+◌, ◌*◌, ◌≤◌}
-use Rattle.sk_rounds.specs.Walks.{Table, Walks, Lies}
+use Rattle.sk_rounds.specs.Walks.{Table, Walks, Lies, FitTable}
 use Rattle.sk_rounds.specs.Rounds.{table_after, is_still, EndsAt, IsLast, IsAccepted}
 use Rattle.sk_rounds.specs.Laws.{EndsWithin}
 use Rattle.sk_rounds.specs.Marks.{Callers, is_changed, changes, changes_of, marked_after, marked_run, walks, walks_of, triples, all_marked, none_marked}
@@ -16,11 +16,12 @@ pub record Lowest {K E : Type 0} (w : Walks K E) (T : Table K E) : Type 0 where
   pub last : ℕ
   pub is_lowest : IsLowest w T last
 
--- the table of the second phase, from any number of descending rounds, is accepted and lies below the climbed one
+-- the table of the second phase, from any number of descending rounds, fits, is accepted and lies below the climbed one
 pub record SecondLaws {K E : Type 0} (w : Walks K E) (meet : Meet E) : Type 0 where
   pub lowest : (last : ℕ) → IsLast w last → Lowest w (table_after w last)
   pub lowered_decided : (last r : ℕ) → IsLast w last → MatchBool (is_still w (lowered w (table_after w last) (suc r)) (lowered w (table_after w last) r)) (lowered w (table_after w last) (suc r) ≡ lowered w (table_after w last) r) (lowered w (table_after w last) (suc r) ≢ lowered w (table_after w last) r)
   pub climb_ends : (last down : ℕ) → IsLast w last → EndsWithin (outputs_after w (lowered w (table_after w last) down)) (second_bound w)
+  pub fits : (last down again : ℕ) → IsLast w last → FitTable w (met_outputs meet (lowered w (table_after w last) down) (outputs_after w (lowered w (table_after w last) down) again))
   pub accepted : (last down again : ℕ) → IsLast w last → EndsAt (outputs_after w (lowered w (table_after w last) down)) again → IsAccepted w (met_outputs meet (lowered w (table_after w last) down) (outputs_after w (lowered w (table_after w last) down) again))
   pub below : (last down again : ℕ) → IsLast w last → Lies w (met_outputs meet (lowered w (table_after w last) down) (outputs_after w (lowered w (table_after w last) down) again)) (table_after w last)
 
