@@ -1,0 +1,10 @@
+pub mod Signs
+pub mod Ends
+pub mod Intervals
+pub mod Spans
+pub mod InRange
+pub mod Outcomes
+pub mod States
+pub mod Found
+pub mod Filters
+pub mod Everywhere
