@@ -1,6 +1,11 @@
 //! What each filter gives on abstract arguments.
-ghost use Rattle.std.specs.Prelude.{◌≡◌, IfOk};
+ghost use Rattle.std.specs.Prelude.{◌≡◌, [], ◌∷◌, IfOk};
 ghost use Rattle.std.specs.Option.{option_and_then};
+ghost use Rattle.sk_base.specs.declared.flow.FlowSort.{FlowSort};
+ghost use Rattle.sk_def.specs.declared.sorts.VarSort.{VarSort};
+ghost use Rattle.sk_def.specs.Signatures.{parameters};
+ghost use Rattle.sk_lattice.specs.declared.flow.AbsFlow.{AbsFlow};
+ghost use Rattle.sk_absfilter.specs.declared.arg.AbsArg.{AbsArg};
 ghost use Rattle.sk_absfilter.specs.Abstract.{abstract_result, raw_result, proper_tuple, numbers_alone, truths_alone};
 
 use crate::AbsArg;
@@ -9,9 +14,8 @@ use crate::arg::{
     the_store, the_val,
 };
 use crate::cells::{cell_at, empty, keep, may_be_set, set_cell, write};
-use crate::outcome::{number, one, passing, sides};
-use crate::proper::some_pair;
-use crate::truths::{both, either, negations, only};
+use crate::outcome::{number, one, passing, passing_pair, sides};
+use crate::truths::{any_truth, both, either, negations, only};
 use sk_base::NoMemory;
 use sk_def::Filter;
 use sk_lattice::{AbsBool, AbsCell, AbsFlow, AbsTuple, AbsVal, NumDom};
@@ -62,23 +66,7 @@ fn outcome<D: NumDom>(
         Filter::One => number(alloc, 1),
         Filter::Yes => one(alloc, AbsFlow::Bool(only(true))),
         Filter::No => one(alloc, AbsFlow::Bool(only(false))),
-        Filter::Add =>
-            on!(the_ints(args), (a, b) => one(alloc, AbsFlow::Int(D::arith(Arith::Add, a, b)))),
-        Filter::Sub =>
-            on!(the_ints(args), (a, b) => one(alloc, AbsFlow::Int(D::arith(Arith::Sub, a, b)))),
-        Filter::Mul =>
-            on!(the_ints(args), (a, b) => one(alloc, AbsFlow::Int(D::arith(Arith::Mul, a, b)))),
         Filter::Neg => on!(the_int(args), a => one(alloc, AbsFlow::Int(a.neg()))),
-        Filter::Div =>
-            on!(the_ints(args), (a, b) => one(alloc, AbsFlow::Int(D::arith(Arith::Div, a, b)))),
-        Filter::Rem =>
-            on!(the_ints(args), (a, b) => one(alloc, AbsFlow::Int(D::arith(Arith::Rem, a, b)))),
-        Filter::Lt =>
-            on!(the_ints(args), (a, b) => one(alloc, AbsFlow::Bool(D::compare(Compare::Lt, a, b)))),
-        Filter::Le =>
-            on!(the_ints(args), (a, b) => one(alloc, AbsFlow::Bool(D::compare(Compare::Le, a, b)))),
-        Filter::Eq =>
-            on!(the_ints(args), (a, b) => one(alloc, AbsFlow::Bool(D::compare(Compare::Eq, a, b)))),
         Filter::Not => on!(the_bool(args), a => one(alloc, AbsFlow::Bool(negations(a)))),
         Filter::And => on!(the_bools(args), (a, b) => one(alloc, AbsFlow::Bool(both(a, b)))),
         Filter::Or => on!(the_bools(args), (a, b) => one(alloc, AbsFlow::Bool(either(a, b)))),
@@ -86,18 +74,11 @@ fn outcome<D: NumDom>(
         Filter::IsFalse => on!(the_bool(args), a => passing(alloc, a.has_false)),
         Filter::IsZero => on!(the_int(args), a => passing(alloc, !a.meet(D::of(0)).is_empty())),
         Filter::NonZero =>
-            on!(the_int(args), a => passing(alloc, some_pair(D::refine(Refine::Differ, a, D::of(0))))),
+            on!(the_int(args), a => passing_pair(alloc, D::refine(Refine::Differ, a, D::of(0)))),
         Filter::IsPos =>
-            on!(the_int(args), a => passing(alloc, some_pair(D::refine(Refine::Below, D::of(0), a)))),
+            on!(the_int(args), a => passing_pair(alloc, D::refine(Refine::Below, D::of(0), a))),
         Filter::IsNeg =>
-            on!(the_int(args), a => passing(alloc, some_pair(D::refine(Refine::Below, a, D::of(0))))),
-        Filter::Below =>
-            on!(the_ints(args), (a, b) => sides(alloc, D::refine(Refine::Below, a, b))),
-        Filter::AtLeast =>
-            on!(the_ints(args), (a, b) => sides(alloc, D::refine(Refine::AtLeast, a, b))),
-        Filter::Same => on!(the_ints(args), (a, b) => sides(alloc, D::refine(Refine::Same, a, b))),
-        Filter::Differ =>
-            on!(the_ints(args), (a, b) => sides(alloc, D::refine(Refine::Differ, a, b))),
+            on!(the_int(args), a => passing_pair(alloc, D::refine(Refine::Below, a, D::of(0)))),
         Filter::OfInt => on!(the_int(args), a => one(alloc, AbsFlow::Val(numbers_alone(a)))),
         Filter::OfBool => on!(the_bool(args), a => one(alloc, AbsFlow::Val(truths_alone(a)))),
         Filter::AsInt => on!(the_val(args), val => one(alloc, AbsFlow::Int(val.num))),
@@ -115,15 +96,38 @@ fn outcome<D: NumDom>(
         Filter::KeepBool => on!(the_bool(args), a => one(alloc, AbsFlow::Bool(a))),
         Filter::KeepVal => on!(the_val(args), val => one(alloc, AbsFlow::Val(val))),
         Filter::KeepStore => on!(the_store(args), store => keep(alloc, store)),
-        Filter::AnyBool => one(
-            alloc,
-            AbsFlow::Bool(AbsBool {
-                has_true: true,
-                has_false: true,
-            }),
-        ),
-        Filter::Pick =>
-            on!(the_ints(args), (a, b) => one(alloc, AbsFlow::Int(D::arith(Arith::Pick, a, b)))),
+        Filter::AnyBool => one(alloc, AbsFlow::Bool(any_truth())),
+        _ => on!(the_ints(args), (a, b) => on_ints(alloc, filter, a, b)),
+    }
+}
+
+/// What a filter of two numbers gives.
+fn on_ints<D: NumDom>(
+    alloc: Global,
+    filter: Filter,
+    a: D,
+    b: D,
+) -> Result<Option<AbsTuple<D>>, NoMemory>
+    requires of_two_numbers { parameters filter ≡ VarSort.Flow FlowSort.Int ∷ VarSort.Flow FlowSort.Int ∷ [] }
+    ensures { IfOk result (λ outcome.
+        outcome ≡ option_and_then (proper_tuple D.domain)
+        (raw_result D.domain filter 0 (AbsArg.Flow (AbsFlow.Int a) ∷ AbsArg.Flow (AbsFlow.Int b) ∷ []))) }
+{
+    match filter {
+        Filter::Add => one(alloc, AbsFlow::Int(D::arith(Arith::Add, a, b))),
+        Filter::Sub => one(alloc, AbsFlow::Int(D::arith(Arith::Sub, a, b))),
+        Filter::Mul => one(alloc, AbsFlow::Int(D::arith(Arith::Mul, a, b))),
+        Filter::Div => one(alloc, AbsFlow::Int(D::arith(Arith::Div, a, b))),
+        Filter::Rem => one(alloc, AbsFlow::Int(D::arith(Arith::Rem, a, b))),
+        Filter::Lt => one(alloc, AbsFlow::Bool(D::compare(Compare::Lt, a, b))),
+        Filter::Le => one(alloc, AbsFlow::Bool(D::compare(Compare::Le, a, b))),
+        Filter::Eq => one(alloc, AbsFlow::Bool(D::compare(Compare::Eq, a, b))),
+        Filter::Below => sides(alloc, D::refine(Refine::Below, a, b)),
+        Filter::AtLeast => sides(alloc, D::refine(Refine::AtLeast, a, b)),
+        Filter::Same => sides(alloc, D::refine(Refine::Same, a, b)),
+        Filter::Differ => sides(alloc, D::refine(Refine::Differ, a, b)),
+        Filter::Pick => one(alloc, AbsFlow::Int(D::arith(Arith::Pick, a, b))),
+        _ => unreachable!(),
     }
 }
 

@@ -2,9 +2,9 @@
 ghost use Rattle.std.specs.Prelude.{◌≡◌, [], ◌∷◌, IfOk};
 ghost use Rattle.std.specs.Option.{option_and_then};
 ghost use Rattle.sk_lattice.specs.declared.flow.AbsFlow.{AbsFlow};
-ghost use Rattle.sk_absfilter.specs.Abstract.{proper_tuple, sides, passing, number};
+ghost use Rattle.sk_absfilter.specs.Abstract.{proper_tuple, sides, passing, some_pair, number};
 
-use crate::proper::is_proper;
+use crate::proper::{is_proper, some_pair};
 use sk_base::NoMemory;
 use sk_lattice::{AbsFlow, AbsTuple, NumDom};
 use std::alloc::Global;
@@ -56,4 +56,15 @@ pub(crate) fn passing<D: NumDom>(
     } else {
         Ok(None)
     }
+}
+
+/// The empty tuple where neither side of a refined pair is empty.
+pub(crate) fn passing_pair<D: NumDom>(
+    alloc: Global,
+    pair: (D, D),
+) -> Result<Option<AbsTuple<D>>, NoMemory>
+    ensures { IfOk result (λ outcome.
+        outcome ≡ option_and_then (proper_tuple D.domain) (passing (some_pair D.domain pair))) }
+{
+    passing(alloc, some_pair(pair))
 }

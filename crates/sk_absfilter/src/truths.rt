@@ -1,6 +1,6 @@
 //! Operations on sets of truth values.
 ghost use Rattle.std.specs.Prelude.{◌≡◌, ◌&&◌, ◌||◌, not};
-ghost use Rattle.sk_absfilter.specs.Truths.{only_truth, truths_given, truths_of_pairs};
+ghost use Rattle.sk_absfilter.specs.Truths.{both_truths, only_truth, truths_given, truths_of_pairs};
 
 use sk_lattice::AbsBool;
 
@@ -11,6 +11,16 @@ pub(crate) fn only(truth: bool) -> AbsBool
     AbsBool {
         has_true: truth,
         has_false: !truth,
+    }
+}
+
+/// Either truth value.
+pub(crate) fn any_truth() -> AbsBool
+    ensures { result ≡ both_truths }
+{
+    AbsBool {
+        has_true: true,
+        has_false: true,
     }
 }
 

@@ -1,7 +1,11 @@
 //! What each filter gives.
 ghost use Rattle.std.specs.Prelude.{◌≡◌, [], ◌∷◌, true, false, Some, None, IfOk, is_some, replicate, slice_set};
 ghost use Rattle.std.specs.Option.{option_map_or};
+ghost use Rattle.sk_base.specs.declared.flow.FlowSort.{FlowSort};
+ghost use Rattle.sk_def.specs.declared.sorts.VarSort.{VarSort};
+ghost use Rattle.sk_def.specs.Signatures.{parameters};
 ghost use Rattle.sk_value.specs.declared.flow.Flow.{Flow};
+ghost use Rattle.sk_filter.specs.declared.arg.Arg.{Arg};
 ghost use Rattle.sk_filter.specs.Results.{results_of, is_choice, one, int_in, bool_in, value_at};
 
 use crate::arg::{
@@ -44,15 +48,7 @@ pub fn apply(alloc: Global, filter: Filter, names: usize, args: &[Arg]) -> Resul
         Filter::One => one(alloc, Flow::Int(1)),
         Filter::Yes => one(alloc, Flow::Bool(true)),
         Filter::No => one(alloc, Flow::Bool(false)),
-        Filter::Add => on!(alloc, the_ints(args), (a, b) => arith(alloc, Arith::Add, a, b)),
-        Filter::Sub => on!(alloc, the_ints(args), (a, b) => arith(alloc, Arith::Sub, a, b)),
-        Filter::Mul => on!(alloc, the_ints(args), (a, b) => arith(alloc, Arith::Mul, a, b)),
         Filter::Neg => on!(alloc, the_int(args), a => negate(alloc, a)),
-        Filter::Div => on!(alloc, the_ints(args), (a, b) => arith(alloc, Arith::Div, a, b)),
-        Filter::Rem => on!(alloc, the_ints(args), (a, b) => arith(alloc, Arith::Rem, a, b)),
-        Filter::Lt => on!(alloc, the_ints(args), (a, b) => compare(alloc, Compare::Lt, a, b)),
-        Filter::Le => on!(alloc, the_ints(args), (a, b) => compare(alloc, Compare::Le, a, b)),
-        Filter::Eq => on!(alloc, the_ints(args), (a, b) => compare(alloc, Compare::Eq, a, b)),
         Filter::Not => on!(alloc, the_bool(args), a => one(alloc, Flow::Bool(!a))),
         Filter::And => on!(alloc, the_bools(args), (a, b) => one(alloc, Flow::Bool(a && b))),
         Filter::Or => on!(alloc, the_bools(args), (a, b) => one(alloc, Flow::Bool(a || b))),
@@ -62,11 +58,6 @@ pub fn apply(alloc: Global, filter: Filter, names: usize, args: &[Arg]) -> Resul
         Filter::NonZero => on!(alloc, the_int(args), a => passing(alloc, a != 0)),
         Filter::IsPos => on!(alloc, the_int(args), a => passing(alloc, 0 < a)),
         Filter::IsNeg => on!(alloc, the_int(args), a => passing(alloc, a < 0)),
-        Filter::Below => on!(alloc, the_ints(args), (a, b) => refine(alloc, Refine::Below, a, b)),
-        Filter::AtLeast =>
-            on!(alloc, the_ints(args), (a, b) => refine(alloc, Refine::AtLeast, a, b)),
-        Filter::Same => on!(alloc, the_ints(args), (a, b) => refine(alloc, Refine::Same, a, b)),
-        Filter::Differ => on!(alloc, the_ints(args), (a, b) => refine(alloc, Refine::Differ, a, b)),
         Filter::OfInt => on!(alloc, the_int(args), a => one(alloc, Flow::Val(Value::Int(a)))),
         Filter::OfBool => on!(alloc, the_bool(args), a => one(alloc, Flow::Val(Value::Bool(a)))),
         Filter::AsInt => on!(alloc, the_val(args), value => int_in(alloc, value)),
@@ -83,7 +74,30 @@ pub fn apply(alloc: Global, filter: Filter, names: usize, args: &[Arg]) -> Resul
         Filter::KeepVal => on!(alloc, the_val(args), value => one(alloc, Flow::Val(value))),
         Filter::KeepStore => on!(alloc, the_store(args), store => keep(alloc, store)),
         Filter::AnyBool => any_bool(alloc),
-        Filter::Pick => on!(alloc, the_ints(args), (a, b) => arith(alloc, Arith::Pick, a, b)),
+        _ => on!(alloc, the_ints(args), (a, b) => on_ints(alloc, filter, a, b)),
+    }
+}
+
+/// The results of a filter of two numbers.
+fn on_ints(alloc: Global, filter: Filter, a: i64, b: i64) -> Result<Results, NoMemory>
+    requires of_two_numbers { parameters filter ≡ VarSort.Flow FlowSort.Int ∷ VarSort.Flow FlowSort.Int ∷ [] }
+    ensures { IfOk result (λ results. results ≡ results_of filter 0 (Arg.Flow (Flow.Int a) ∷ Arg.Flow (Flow.Int b) ∷ [])) }
+{
+    match filter {
+        Filter::Add => arith(alloc, Arith::Add, a, b),
+        Filter::Sub => arith(alloc, Arith::Sub, a, b),
+        Filter::Mul => arith(alloc, Arith::Mul, a, b),
+        Filter::Div => arith(alloc, Arith::Div, a, b),
+        Filter::Rem => arith(alloc, Arith::Rem, a, b),
+        Filter::Lt => compare(alloc, Compare::Lt, a, b),
+        Filter::Le => compare(alloc, Compare::Le, a, b),
+        Filter::Eq => compare(alloc, Compare::Eq, a, b),
+        Filter::Below => refine(alloc, Refine::Below, a, b),
+        Filter::AtLeast => refine(alloc, Refine::AtLeast, a, b),
+        Filter::Same => refine(alloc, Refine::Same, a, b),
+        Filter::Differ => refine(alloc, Refine::Differ, a, b),
+        Filter::Pick => arith(alloc, Arith::Pick, a, b),
+        _ => unreachable!(),
     }
 }
 
