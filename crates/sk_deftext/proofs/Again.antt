@@ -62,20 +62,36 @@ def_in other (Err fault) = other
 abbrev said : Def → Places → Result Source DefFault
 said d places = Ok (record { def = d; places = places })
 
+-- what a text that says a definition was read as
+pub record IsRead (text : List ℕ) (d : Def) : Type 0 where
+  pub tokens : List Token
+  pub are : tokens_of text ≡ Ok tokens
+  pub draft : Draft
+  pub is : read_symbols (symbols text tokens) ≡ Ok draft
+  pub def_is : d ≡ draft.def
+
 drafted : (text : List ℕ) (d : Def) (places : Places) (ts : List Token) → tokens_of text ≡ Ok ts → (r : Result Draft (DefError × ℕ)) → read_symbols (symbols text ts) ≡ r →
-    located text ts r ≡ said d places → HasText d
-drafted text d places ts t (Ok draft) m e = let same : draft.def ≡ d = ap (def_in d) e in read_has_text text ts draft d (sym same) t m
+    located text ts r ≡ said d places → IsRead text d
+drafted text d places ts t (Ok draft) m e =
+    let same : draft.def ≡ d = ap (def_in d) e in
+    record { tokens = ts; are = t; draft = draft; is = m; def_is = sym same }
 drafted text d places ts t (Err (error, number)) m e = absurd (cc e)
 
 lexed_so : (text : List ℕ) (d : Def) (places : Places) (r : Result (List Token) (LexError × ℕ)) → tokens_of text ≡ r →
-    (lexed text r >>= λ tokens. located text tokens (read_symbols (symbols text tokens))) ≡ said d places → HasText d
+    (lexed text r >>= λ tokens. located text tokens (read_symbols (symbols text tokens))) ≡ said d places → IsRead text d
 lexed_so text d places (Ok ts) t e = drafted text d places ts t (read_symbols (symbols text ts)) refl e
 lexed_so text d places (Err (error, at)) t e = absurd (cc e)
 
-said_has_text : (text : List ℕ) (d : Def) (places : Places) → read_definition text ≡ said d places → HasText d
+pub said_is_read : (text : List ℕ) (d : Def) → Says text d → IsRead text d
 unfolding read_definition
-said_has_text text d places e = lexed_so text d places (tokens_of text) refl e
+said_is_read text d s = lexed_so text d s.places (tokens_of text) refl s.is
+
+-- a definition that some text says has a text
+pub said_has_text : (text : List ℕ) (d : Def) → Says text d → HasText d
+said_has_text text d s =
+    let r = said_is_read text d s in
+    read_has_text text r.tokens r.draft d r.def_is r.are r.is
 
 -- what some text says, the canonical text says
 pub said_again : (text : List ℕ) (d : Def) → Says text d → Says (definition_text d) d
-said_again text d s = canonical_says d (said_has_text text d s.places s.is)
+said_again text d s = canonical_says d (said_has_text text d s)

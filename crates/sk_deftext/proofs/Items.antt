@@ -48,7 +48,8 @@ use Rattle.sk_deftext.specs.declared.expected.Body.TheVariants as body_of
 use Rattle.sk_deftext.specs.declared.fault.DefError.{DefError}
 use Rattle.sk_deftext.specs.declared.fault.DefError.TheVariants.{Unexpected, Duplicate, TooMany}
 use Rattle.sk_deftext.specs.declared.fault.Which.TheVariants as which
-use Rattle.sk_deftext.proofs.Said.{list_symbols, sort_symbols, con_symbols, hook_symbols, bones_symbols, rule_symbols, definition_symbols, hook_word_is, con_word_is, definition_writes}
+use Rattle.sk_deftext.specs.Spelling.{no_declaration, with_sort, with_con, with_hook, with_rule, list_symbols, sort_symbols, con_symbols, hook_symbols, bones_symbols, rule_symbols}
+use Rattle.sk_deftext.proofs.Said.{definition_symbols, hook_word_is, con_word_is, definition_writes}
 use Rattle.sk_deftext.proofs.Spelled.{written_spells, text_tokens, text_symbols}
 use Rattle.sk_deftext.proofs.Found.{con_place, hook_place, after_front, sort_found, argument_found, appears, appears_more}
 use Rattle.sk_deftext.proofs.Steps.{Answer, Gets, Closes, turn, closes, colon_step, arrow_step, left_brace_step, list_gets, with_vars, terms_of_vars, inputs_of_vars, outputs_of_vars, vars_get}
@@ -199,36 +200,93 @@ nth : {A : Type 0} (done : List A) (x : A) (todo : List A) (d : A) → get_or (d
 nth [] x todo d = refl
 nth (y ∷ done) x todo d = nth done x todo d
 
-member : {A : Type 0} (P : A → Type 0) (xs done todo : List A) (x : A) → xs ≡ done ++ x ∷ todo → All P xs → P x
+pub member : {A : Type 0} (P : A → Type 0) (xs done todo : List A) (x : A) → xs ≡ done ++ x ∷ todo → All P xs → P x
 member P xs done todo x e h =
     subst P (ap (λ ys. get_or ys (length done) x) e ∙ nth done x todo x) (h (length done) x (omega (arith, ap length e, length-append done (x ∷ todo))))
 
 shift : {A : Type 0} (xs done todo : List A) (x : A) → xs ≡ done ++ x ∷ todo → xs ≡ (done ++ x ∷ []) ++ todo
 shift xs done todo x e = e ∙ sym (append_assoc done (x ∷ []) todo)
 
-names_split : {A : Type 0} (name : A → List ℕ) (xs done todo : List A) (x : A) → xs ≡ done ++ x ∷ todo → map name xs ≡ map name done ++ name x ∷ map name todo
+pub names_split : {A : Type 0} (name : A → List ℕ) (xs done todo : List A) (x : A) → xs ≡ done ++ x ∷ todo → map name xs ≡ map name done ++ name x ∷ map name todo
 names_split name xs done todo x e = ap (map name) e ∙ map-append name done (x ∷ todo)
 
 nth_hook : (hooks : List Hook) (place : ℕ) → place < length hooks → Hook
 nth_hook [] place below = absurd (omega (arith, below))
 nth_hook (hook ∷ hooks) place below = hook
 
-module _ (d : Def) (h : HasText d) where
-  sort_of : (id : SortId) → id.0 < length d.sorts → sort_named d.sorts (name_at d.sorts id.0) ≡ Some id
-  sort_of id within = sort_found d.sorts h.named.sorts id within
+-- the sort of a name that is declared
+sort_of : (sorts : List (List ℕ)) → AreNames sorts → (id : SortId) → id.0 < length sorts → sort_named sorts (name_at sorts id.0) ≡ Some id
+sort_of sorts names id within = sort_found sorts names id within
 
-  own_name : (place : ℕ) → place < length d.sorts → is_reserved (name_at d.sorts place) ≡ false
-  own_name place within =
-      let P : List ℕ → Type 0 = λ name. is_reserved name ≡ false in
-      subst P (sym (unwrap_or-slice_get d.sorts place [])) (h.named.own_sorts place [] within)
+-- no sort that is declared has a name that is there from the start
+own_name : (sorts : List (List ℕ)) → All (λ name. is_reserved name ≡ false) sorts → (place : ℕ) → place < length sorts → is_reserved (name_at sorts place) ≡ false
+own_name sorts own place within =
+    let P : List ℕ → Type 0 = λ name. is_reserved name ≡ false in
+    subst P (sym (unwrap_or-slice_get sorts place [])) (own place [] within)
 
-  hook_own : (place : ℕ) → place < length d.hooks → filter_named (name_at (map (λ (hook : Hook). hook.name) d.hooks) place) ≡ None
-  hook_own place below =
-      let name = λ (hook : Hook). hook.name in
-      let hook = nth_hook d.hooks place below in
-      let P : List ℕ → Type 0 = λ word. filter_named word ≡ None in
-      subst P (sym (unwrap_or-slice_get (map name d.hooks) place [] ∙ get_or-map name d.hooks place hook [] below)) (h.named.own_hooks place hook below)
+-- no hook that is declared has the name of a filter
+hook_own : (hooks : List Hook) → All (λ (hook : Hook). filter_named hook.name ≡ None) hooks → (place : ℕ) → place < length hooks → filter_named (name_at (map (λ (hook : Hook). hook.name) hooks) place) ≡ None
+hook_own hooks own place below =
+    let name = λ (hook : Hook). hook.name in
+    let hook = nth_hook hooks place below in
+    let P : List ℕ → Type 0 = λ word. filter_named word ≡ None in
+    subst P (sym (unwrap_or-slice_get (map name hooks) place [] ∙ get_or-map name hooks place hook [] below)) (own place hook below)
 
+-- One item more.
+
+module _ {from : Answer} {total : ℕ} (now : Def) where
+  pub sort_get : (name : List ℕ) (left : List Symbol) → length now.sorts < 16 → keyword_of name ≡ None → is_reserved name ≡ false → place_of_name now.sorts name ≡ None →
+      Idle from total now (sort_symbols name ++ left) → Idle from total (with_sort now name) left
+  sort_get name left few plain own new i =
+      let begun = turn i.gets (idle now i.other) (expected.SortName ∷ expected.Item ∷ []) (sort_begins (idle now i.other) i.gets.at) in
+      record { other = i.other; gets = turn begun (idle (with_sort now name) i.other) [] (sort_named_so (idle now i.other) begun.at name plain few own new) }
+
+  module _ (sort_names : AreNames now.sorts) where
+    pub con_get : (con : Con) (left : List Symbol) → All (λ name. is_reserved name ≡ false) now.sorts → length now.cons < 128 → keyword_of con.name ≡ None → place_of_con now.cons con.name ≡ None → ConstructorFits (length now.sorts) con →
+        Idle from total now (con_symbols now.sorts con ++ left) → Idle from total (with_con now con) left
+    con_get con left own few plain new fits i =
+        let first = idle now i.other in
+        let g = i.gets in
+        let begun = turn g first (expected.ConName ∷ expected.Colon ∷ expected.SortUsed ∷ expected.Open ∷ expected.First listed.Arguments ∷ expected.Item ∷ []) (con_begins first g.at) in
+        let named_draft = record first { con_name = Some con.name } in
+        let named = turn begun named_draft [] (con_named_so first begun.at con.name plain few new) in
+        let coloned = turn named named_draft [] (colon_step named_draft named.at) in
+        let sorted_draft = record named_draft { sort = Some con.sort } in
+        let sorted = turn coloned sorted_draft [] (sort_is_used named_draft coloned.at (name_at now.sorts con.sort.0) con.sort (sort_of now.sorts sort_names con.sort fits.sort_declared)) in
+        let listed_args = list_gets listed.Arguments (arg_word now.sorts) (λ (args : List ArgSort). record sorted_draft { args = args }) 8 (ArgumentFits (length now.sorts))
+        (λ (so_far : List ArgSort) (x : ArgSort) (room : length so_far < 8) (good : ArgumentFits (length now.sorts) x).
+        argument_enters (record sorted_draft { args = so_far }) (arg_word now.sorts x) x room (argument_found now.sorts sort_names (own_name now.sorts own) x good)) con.args fits.few_arguments fits.arguments_declared sorted in
+        let after = record i.other { sort = Some con.sort } in
+        record { other = after; gets = closes listed_args (idle (with_con now con) after) [] (con_closes (record sorted_draft { args = con.args })) }
+
+    pub hook_get : (hook : Hook) (left : List Symbol) → length now.hooks < 8 → keyword_of hook.name ≡ None → filter_named hook.name ≡ None → place_of_hook now.hooks hook.name ≡ None → HookFits (length now.sorts) hook →
+        Idle from total now (hook_symbols now.sorts hook ++ left) → Idle from total (with_hook now hook) left
+    hook_get hook left few plain own new fits i =
+        let ins = list_symbols flow_word hook.inputs in
+        let outs = list_symbols flow_word hook.outputs in
+        let sort = Named (name_at now.sorts hook.sort.0) in
+        let group : hook_symbols now.sorts hook ++ left ≡ Named (codes "hook") ∷ Named hook.name ∷ (ins ++ (sort ∷ Plain Points ∷ (outs ++ left))) =
+        ap (λ symbols. Named (codes "hook") ∷ Named hook.name ∷ symbols) (append_assoc ins (sort ∷ Plain Points ∷ outs) left) in
+        let P : List Symbol → Type 0 = λ symbols. Gets from total (expected.Item ∷ []) (idle now i.other) symbols in
+        let g = subst P group i.gets in
+        let first = idle now i.other in
+        let second = record first { begun = g.at } in
+        let begun = turn g second (expected.HookName ∷ expected.Open ∷ expected.First listed.Inputs ∷ expected.SortUsed ∷ expected.Arrow ∷ expected.Open ∷ expected.First listed.Outputs ∷ expected.Item ∷ []) (hook_begins first g.at) in
+        let third = record second { hook_name = Some hook.name } in
+        let named = turn begun third [] (hook_named_so second begun.at hook.name plain few own new) in
+        let listed_ins = list_gets listed.Inputs flow_word (λ (flows : List FlowSort). record third { inputs = flows }) 4 (λ (sort : FlowSort). Unit {0})
+        (λ (so_far : List FlowSort) (x : FlowSort) (room : length so_far < 4) (good : Unit {0}). input_enters (record third { inputs = so_far }) x room) hook.inputs fits.few_inputs (λ k x within. tt) named in
+        let fourth = record third { inputs = hook.inputs } in
+        let read_ins = closes listed_ins fourth [] (inputs_close fourth) in
+        let fifth = record fourth { sort = Some hook.sort } in
+        let sorted = turn read_ins fifth [] (sort_is_used fourth read_ins.at (name_at now.sorts hook.sort.0) hook.sort (sort_of now.sorts sort_names hook.sort fits.sort_declared)) in
+        let pointed = turn sorted fifth [] (arrow_step fifth sorted.at) in
+        let listed_outs = list_gets listed.Outputs flow_word (λ (flows : List FlowSort). record fifth { outputs = flows }) 4 (λ (sort : FlowSort). Unit {0})
+        (λ (so_far : List FlowSort) (x : FlowSort) (room : length so_far < 4) (good : Unit {0}). output_enters (record fifth { outputs = so_far }) x room) hook.outputs fits.few_outputs (λ k x within. tt) pointed in
+        let after = record i.other { begun = g.at; sort = Some hook.sort; hooks = i.other.hooks ++ g.at ∷ [] } in
+        record { other = after; gets = closes listed_outs (idle (with_hook now hook) after) [] (hook_closes (record fifth { outputs = hook.outputs })) }
+
+-- Sorts, constructors and hooks in the order of the canonical text.
 module _ {from : Answer} {total : ℕ} (d : Def) (h : HasText d) where
   sorts_get : (done todo : List (List ℕ)) (left : List Symbol) → d.sorts ≡ done ++ todo → Idle from total (record { sorts = done; cons = []; hooks = []; rules = [] }) (flat_map sort_symbols todo ++ left) →
       Idle from total (record { sorts = d.sorts; cons = []; hooks = []; rules = [] }) left
@@ -237,13 +295,11 @@ module _ {from : Answer} {total : ℕ} (d : Def) (h : HasText d) where
       subst P (sym (e ∙ append-nil done)) i
   sorts_get done (name ∷ todo) left e i =
       let now : Def = record { sorts = done; cons = []; hooks = []; rules = [] } in
-      let later : Def = record { sorts = done ++ name ∷ []; cons = []; hooks = []; rules = [] } in
       let few : length done < 16 = omega (arith, ap length e, length-append done (name ∷ todo), h.fits.few_sorts) in
-      let begun = turn i.gets (idle now i.other) (expected.SortName ∷ expected.Item ∷ []) (sort_begins (idle now i.other) i.gets.at) in
       let plain = (member IsName d.sorts done todo name e h.named.sorts.each).plain in
       let own = member (λ (name : List ℕ). is_reserved name ≡ false) d.sorts done todo name e h.named.own_sorts in
-      let named = turn begun (idle later i.other) [] (sort_named_so (idle now i.other) begun.at name plain few own (after_front done name todo d.sorts e h.named.sorts)) in
-      sorts_get (done ++ name ∷ []) todo left (shift d.sorts done todo name e) (record { other = i.other; gets = named })
+      sorts_get (done ++ name ∷ []) todo left (shift d.sorts done todo name e)
+      (sort_get now name (flat_map sort_symbols todo ++ left) few plain own (after_front done name todo d.sorts e h.named.sorts) i)
 
   cons_get : (done todo : List Con) (left : List Symbol) → d.cons ≡ done ++ todo → Idle from total (record { sorts = d.sorts; cons = done; hooks = []; rules = [] }) (flat_map (con_symbols d.sorts) todo ++ left) →
       Idle from total (record { sorts = d.sorts; cons = d.cons; hooks = []; rules = [] }) left
@@ -252,7 +308,6 @@ module _ {from : Answer} {total : ℕ} (d : Def) (h : HasText d) where
       subst P (sym (e ∙ append-nil done)) i
   cons_get done (con ∷ todo) left e i =
       let now : Def = record { sorts = d.sorts; cons = done; hooks = []; rules = [] } in
-      let later : Def = record { sorts = d.sorts; cons = done ++ con ∷ []; hooks = []; rules = [] } in
       let name = λ (con : Con). con.name in
       let few : length done < 128 = omega (arith, ap length e, length-append done (con ∷ todo), h.fits.few_constructors) in
       let fits = member (ConstructorFits (length d.sorts)) d.cons done todo con e h.fits.constructors_fit in
@@ -260,22 +315,9 @@ module _ {from : Answer} {total : ℕ} (d : Def) (h : HasText d) where
       let plain = (member IsName (map name d.cons) (map name done) (map name todo) con.name split h.named.cons.each).plain in
       let new : place_of_con done con.name ≡ None = con_place done con.name ∙ after_front (map name done) con.name (map name todo) (map name d.cons) split h.named.cons in
       let rest = flat_map (con_symbols d.sorts) todo in
-      let group : flat_map (con_symbols d.sorts) (con ∷ todo) ++ left ≡ con_symbols d.sorts con ++ (rest ++ left) = append_assoc (con_symbols d.sorts con) rest left in
-      let P : List Symbol → Type 0 = λ symbols. Gets from total (expected.Item ∷ []) (idle now i.other) symbols in
-      let g = subst P group i.gets in
-      let first = idle now i.other in
-      let begun = turn g first (expected.ConName ∷ expected.Colon ∷ expected.SortUsed ∷ expected.Open ∷ expected.First listed.Arguments ∷ expected.Item ∷ []) (con_begins first g.at) in
-      let named_draft = record first { con_name = Some con.name } in
-      let named = turn begun named_draft [] (con_named_so first begun.at con.name plain few new) in
-      let coloned = turn named named_draft [] (colon_step named_draft named.at) in
-      let sorted_draft = record named_draft { sort = Some con.sort } in
-      let sorted = turn coloned sorted_draft [] (sort_is_used named_draft coloned.at (name_at d.sorts con.sort.0) con.sort (sort_of d h con.sort fits.sort_declared)) in
-      let listed_args = list_gets listed.Arguments (arg_word d.sorts) (λ (args : List ArgSort). record sorted_draft { args = args }) 8 (ArgumentFits (length d.sorts))
-      (λ (so_far : List ArgSort) (x : ArgSort) (room : length so_far < 8) (good : ArgumentFits (length d.sorts) x).
-      argument_enters (record sorted_draft { args = so_far }) (arg_word d.sorts x) x room (argument_found d.sorts h.named.sorts (own_name d h) x good)) con.args fits.few_arguments fits.arguments_declared sorted in
-      let after = record i.other { sort = Some con.sort } in
-      let done_now = closes listed_args (idle later after) [] (con_closes (record sorted_draft { args = con.args })) in
-      cons_get (done ++ con ∷ []) todo left (shift d.cons done todo con e) (record { other = after; gets = done_now })
+      let P : List Symbol → Type 0 = λ symbols. Idle from total now symbols in
+      cons_get (done ++ con ∷ []) todo left (shift d.cons done todo con e)
+      (con_get now h.named.sorts con (rest ++ left) h.named.own_sorts few plain new fits (subst P (append_assoc (con_symbols d.sorts con) rest left) i))
 
   hooks_get : (done todo : List Hook) (left : List Symbol) → d.hooks ≡ done ++ todo → Idle from total (record { sorts = d.sorts; cons = d.cons; hooks = done; rules = [] }) (flat_map (hook_symbols d.sorts) todo ++ left) →
       Idle from total (record { sorts = d.sorts; cons = d.cons; hooks = d.hooks; rules = [] }) left
@@ -284,7 +326,6 @@ module _ {from : Answer} {total : ℕ} (d : Def) (h : HasText d) where
       subst P (sym (e ∙ append-nil done)) i
   hooks_get done (hook ∷ todo) left e i =
       let now : Def = record { sorts = d.sorts; cons = d.cons; hooks = done; rules = [] } in
-      let later : Def = record { sorts = d.sorts; cons = d.cons; hooks = done ++ hook ∷ []; rules = [] } in
       let name = λ (hook : Hook). hook.name in
       let few : length done < 8 = omega (arith, ap length e, length-append done (hook ∷ todo), h.fits.few_hooks) in
       let fits = member (HookFits (length d.sorts)) d.hooks done todo hook e h.fits.hooks_fit in
@@ -293,31 +334,9 @@ module _ {from : Answer} {total : ℕ} (d : Def) (h : HasText d) where
       let own = member (λ (hook : Hook). filter_named hook.name ≡ None) d.hooks done todo hook e h.named.own_hooks in
       let new : place_of_hook done hook.name ≡ None = hook_place done hook.name ∙ after_front (map name done) hook.name (map name todo) (map name d.hooks) split h.named.hooks in
       let rest = flat_map (hook_symbols d.sorts) todo in
-      let ins = list_symbols flow_word hook.inputs in
-      let outs = list_symbols flow_word hook.outputs in
-      let sort = Named (name_at d.sorts hook.sort.0) in
-      let group : flat_map (hook_symbols d.sorts) (hook ∷ todo) ++ left ≡ Named (codes "hook") ∷ Named hook.name ∷ (ins ++ (sort ∷ Plain Points ∷ (outs ++ (rest ++ left)))) =
-      append_assoc (hook_symbols d.sorts hook) rest left
-      ∙ ap (λ symbols. Named (codes "hook") ∷ Named hook.name ∷ symbols) (append_assoc ins (sort ∷ Plain Points ∷ outs) (rest ++ left)) in
-      let P : List Symbol → Type 0 = λ symbols. Gets from total (expected.Item ∷ []) (idle now i.other) symbols in
-      let g = subst P group i.gets in
-      let first = idle now i.other in
-      let second = record first { begun = g.at } in
-      let begun = turn g second (expected.HookName ∷ expected.Open ∷ expected.First listed.Inputs ∷ expected.SortUsed ∷ expected.Arrow ∷ expected.Open ∷ expected.First listed.Outputs ∷ expected.Item ∷ []) (hook_begins first g.at) in
-      let third = record second { hook_name = Some hook.name } in
-      let named = turn begun third [] (hook_named_so second begun.at hook.name plain few own new) in
-      let listed_ins = list_gets listed.Inputs flow_word (λ (flows : List FlowSort). record third { inputs = flows }) 4 (λ (sort : FlowSort). Unit {0})
-      (λ (so_far : List FlowSort) (x : FlowSort) (room : length so_far < 4) (good : Unit {0}). input_enters (record third { inputs = so_far }) x room) hook.inputs fits.few_inputs (λ k x within. tt) named in
-      let fourth = record third { inputs = hook.inputs } in
-      let read_ins = closes listed_ins fourth [] (inputs_close fourth) in
-      let fifth = record fourth { sort = Some hook.sort } in
-      let sorted = turn read_ins fifth [] (sort_is_used fourth read_ins.at (name_at d.sorts hook.sort.0) hook.sort (sort_of d h hook.sort fits.sort_declared)) in
-      let pointed = turn sorted fifth [] (arrow_step fifth sorted.at) in
-      let listed_outs = list_gets listed.Outputs flow_word (λ (flows : List FlowSort). record fifth { outputs = flows }) 4 (λ (sort : FlowSort). Unit {0})
-      (λ (so_far : List FlowSort) (x : FlowSort) (room : length so_far < 4) (good : Unit {0}). output_enters (record fifth { outputs = so_far }) x room) hook.outputs fits.few_outputs (λ k x within. tt) pointed in
-      let after = record i.other { begun = g.at; sort = Some hook.sort; hooks = i.other.hooks ++ g.at ∷ [] } in
-      let done_now = closes listed_outs (idle later after) [] (hook_closes (record fifth { outputs = hook.outputs })) in
-      hooks_get (done ++ hook ∷ []) todo left (shift d.hooks done todo hook e) (record { other = after; gets = done_now })
+      let P : List Symbol → Type 0 = λ symbols. Idle from total now symbols in
+      hooks_get (done ++ hook ∷ []) todo left (shift d.hooks done todo hook e)
+      (hook_get now h.named.sorts hook (rest ++ left) few plain own new fits (subst P (append_assoc (hook_symbols d.sorts hook) rest left) i))
 
 -- The parts of a rule.
 
@@ -383,9 +402,6 @@ after_rule other rule begun marks closing = record other {
   rules = other.rules ++ (begun ∷ (marks ++ closing ∷ [])) ∷ [];
 }
 
-abbrev with_rule : Def → Rule → Def
-with_rule now rule = record { sorts = now.sorts; cons = now.cons; hooks = now.hooks; rules = now.rules ++ rule ∷ [] }
-
 rule_finishes : (now : Def) (other : Draft) (rule : Rule) (names : List (List ℕ)) (begun : ℕ) (marks : List ℕ) (target : Target) (closing : ℕ) →
     closed (with_vars names (record (in_body names (record (headed now other rule begun) { terms = rule.terms; rule_inputs = rule.inputs }) 0 marks rule.bones [] target) { closing = closing }) (length names) rule.outputs) listed.RuleOutputs
     ≡ met (idle (with_rule now (with_names rule (take (length names) names))) (after_rule other rule begun marks closing)) []
@@ -396,74 +412,83 @@ rule_finishes now other rule names begun marks target closing = refl
 abbrev rule_rest : List Expected
 rule_rest = expected.Open ∷ expected.First listed.Terms ∷ expected.Open ∷ expected.First listed.RuleInputs ∷ expected.LeftBrace ∷ expected.Bones body_of.Rule ∷ expected.Closing ∷ expected.Open ∷ expected.First listed.RuleOutputs ∷ expected.Item ∷ []
 
-abbrev so_far : Def → List Rule → Def
-so_far d done = record { sorts = d.sorts; cons = d.cons; hooks = d.hooks; rules = done }
-
-record Headed (from : Answer) (total : ℕ) (d : Def) (done : List Rule) (other : Draft) (rule : Rule) (left : List Symbol) : Type 0 where
+record Headed (from : Answer) (total : ℕ) (now : Def) (other : Draft) (rule : Rule) (left : List Symbol) : Type 0 where
   begun : ℕ
-  gets : Gets from total rule_rest (headed (so_far d done) other rule begun) left
+  gets : Gets from total rule_rest (headed now other rule begun) left
 
-rule_grouped : (d : Def) (rule : Rule) (others left : List Symbol) → rule_symbols d rule ++ (others ++ left)
+rule_grouped : (d : Def) (rule : Rule) (left : List Symbol) → rule_symbols d rule ++ left
     ≡ Named (codes "rule") ∷ Named (hook_word d.hooks rule.hook) ∷ Named (con_word d.cons rule.con) ∷ (list_symbols (var_word rule.vars) rule.terms ++ (list_symbols (var_word rule.vars) rule.inputs
-    ++ (Plain LeftBrace ∷ (bones_symbols d.hooks rule.vars (length rule.bones) rule.bones ++ (Plain RightBrace ∷ Plain Points ∷ (list_symbols (var_word rule.vars) rule.outputs ++ (others ++ left)))))))
-rule_grouped d rule others left =
+    ++ (Plain LeftBrace ∷ (bones_symbols d.hooks rule.vars (length rule.bones) rule.bones ++ (Plain RightBrace ∷ Plain Points ∷ (list_symbols (var_word rule.vars) rule.outputs ++ left))))))
+rule_grouped d rule left =
     let terms = list_symbols (var_word rule.vars) rule.terms in
     let ins = list_symbols (var_word rule.vars) rule.inputs in
     let outs = list_symbols (var_word rule.vars) rule.outputs in
     let bones = bones_symbols d.hooks rule.vars (length rule.bones) rule.bones in
     ap (λ symbols. Named (codes "rule") ∷ Named (hook_word d.hooks rule.hook) ∷ Named (con_word d.cons rule.con) ∷ symbols)
-    (append_assoc terms (ins ++ (Plain LeftBrace ∷ (bones ++ (Plain RightBrace ∷ Plain Points ∷ outs)))) (others ++ left)
-    ∙ ap (λ symbols. terms ++ symbols) (append_assoc ins (Plain LeftBrace ∷ (bones ++ (Plain RightBrace ∷ Plain Points ∷ outs))) (others ++ left)
-    ∙ ap (λ symbols. ins ++ (Plain LeftBrace ∷ symbols)) (append_assoc bones (Plain RightBrace ∷ Plain Points ∷ outs) (others ++ left))))
+    (append_assoc terms (ins ++ (Plain LeftBrace ∷ (bones ++ (Plain RightBrace ∷ Plain Points ∷ outs)))) left
+    ∙ ap (λ symbols. terms ++ symbols) (append_assoc ins (Plain LeftBrace ∷ (bones ++ (Plain RightBrace ∷ Plain Points ∷ outs))) left
+    ∙ ap (λ symbols. ins ++ (Plain LeftBrace ∷ symbols)) (append_assoc bones (Plain RightBrace ∷ Plain Points ∷ outs) left)))
 
-module _ {from : Answer} {total : ℕ} (d : Def) (h : HasText d) where
-  head_get : (done : List Rule) (other : Draft) (rule : Rule) (left : List Symbol) → rule.hook.0 < length d.hooks → rule.con.0 < length d.cons →
-      Gets from total (expected.Item ∷ []) (idle (so_far d done) other) (Named (codes "rule") ∷ Named (hook_word d.hooks rule.hook) ∷ Named (con_word d.cons rule.con) ∷ left) → Headed from total d done other rule left
-  head_get done other rule left hook_declared con_declared g =
-      let hook_names = map (λ (hook : Hook). hook.name) d.hooks in
-      let con_names = map (λ (con : Con). con.name) d.cons in
-      let inside : rule.hook.0 < length hook_names = omega (arith, hook_declared, length-map d.hooks (λ (hook : Hook). hook.name)) in
-      let within : rule.con.0 < length con_names = omega (arith, con_declared, length-map d.cons (λ (con : Con). con.name)) in
-      let hooked_so : place_of_hook d.hooks (hook_word d.hooks rule.hook) ≡ Some rule.hook.0 =
-      ap (place_of_hook d.hooks) (hook_word_is d.hooks rule.hook) ∙ hook_place d.hooks (name_at hook_names rule.hook.0) ∙ h.named.hooks.found rule.hook.0 inside in
-      let conned_so : place_of_con d.cons (con_word d.cons rule.con) ≡ Some rule.con.0 =
-      ap (place_of_con d.cons) (con_word_is d.cons rule.con) ∙ con_place d.cons (name_at con_names rule.con.0) ∙ h.named.cons.found rule.con.0 within in
-      let first = record (idle (so_far d done) other) { begun = g.at } in
-      let begun = turn g first read.rule_form (rule_begins (idle (so_far d done) other) g.at) in
+module _ {from : Answer} {total : ℕ} (now : Def) (hook_names : AreNames (map (λ (hook : Hook). hook.name) now.hooks)) (con_names : AreNames (map (λ (con : Con). con.name) now.cons)) where
+  head_get : (other : Draft) (rule : Rule) (left : List Symbol) → rule.hook.0 < length now.hooks → rule.con.0 < length now.cons →
+      Gets from total (expected.Item ∷ []) (idle now other) (Named (codes "rule") ∷ Named (hook_word now.hooks rule.hook) ∷ Named (con_word now.cons rule.con) ∷ left) → Headed from total now other rule left
+  head_get other rule left hook_declared con_declared g =
+      let inside : rule.hook.0 < length (map (λ (hook : Hook). hook.name) now.hooks) = omega (arith, hook_declared, length-map now.hooks (λ (hook : Hook). hook.name)) in
+      let within : rule.con.0 < length (map (λ (con : Con). con.name) now.cons) = omega (arith, con_declared, length-map now.cons (λ (con : Con). con.name)) in
+      let hooked_so : place_of_hook now.hooks (hook_word now.hooks rule.hook) ≡ Some rule.hook.0 =
+      ap (place_of_hook now.hooks) (hook_word_is now.hooks rule.hook) ∙ hook_place now.hooks (name_at (map (λ (hook : Hook). hook.name) now.hooks) rule.hook.0) ∙ hook_names.found rule.hook.0 inside in
+      let conned_so : place_of_con now.cons (con_word now.cons rule.con) ≡ Some rule.con.0 =
+      ap (place_of_con now.cons) (con_word_is now.cons rule.con) ∙ con_place now.cons (name_at (map (λ (con : Con). con.name) now.cons) rule.con.0) ∙ con_names.found rule.con.0 within in
+      let first = record (idle now other) { begun = g.at } in
+      let begun = turn g first read.rule_form (rule_begins (idle now other) g.at) in
       let second = record first { hook = Some rule.hook } in
-      let hooked = turn begun second [] (rule_hooked first begun.at (hook_word d.hooks rule.hook) rule.hook hooked_so) in
-      record { begun = g.at; gets = turn hooked (headed (so_far d done) other rule g.at) [] (rule_conned second hooked.at (con_word d.cons rule.con) rule.con conned_so) }
+      let hooked = turn begun second [] (rule_hooked first begun.at (hook_word now.hooks rule.hook) rule.hook hooked_so) in
+      record { begun = g.at; gets = turn hooked (headed now other rule g.at) [] (rule_conned second hooked.at (con_word now.cons rule.con) rule.con conned_so) }
 
-  rule_get : (done : List Rule) (other : Draft) (rule : Rule) (left : List Symbol) → RuleFits d rule → RuleHasNames rule → IsInOrder rule →
-      Gets from total (expected.Item ∷ []) (idle (so_far d done) other) (Named (codes "rule") ∷ Named (hook_word d.hooks rule.hook) ∷ Named (con_word d.cons rule.con) ∷ (list_symbols (var_word rule.vars) rule.terms ++ (list_symbols (var_word rule.vars) rule.inputs
-      ++ (Plain LeftBrace ∷ (bones_symbols d.hooks rule.vars (length rule.bones) rule.bones ++ (Plain RightBrace ∷ Plain Points ∷ (list_symbols (var_word rule.vars) rule.outputs ++ left))))))) →
-      Idle from total (so_far d (done ++ rule ∷ [])) left
-  rule_get done other rule left fits has order g =
+  pub rule_get : (rule : Rule) (left : List Symbol) → All (λ (hook : Hook). filter_named hook.name ≡ None) now.hooks → RuleFits now rule → RuleHasNames rule → IsInOrder rule →
+      Idle from total now (rule_symbols now rule ++ left) → Idle from total (with_rule now rule) left
+  rule_get rule left own fits has order i =
       let names = rule.vars in
+      let other = i.other in
       let short : All BoneIsShort rule.bones = λ k one inside. bone_short (get_or rule.bones k one) (has.short k one inside) (order.few_branches k one inside) in
       let parts = appears 0 (length names) rule.terms (rule.inputs ++ (bones_vars (length rule.bones) rule.bones ++ rule.outputs)) order.appear in
       let second = appears parts.0 (length names) rule.inputs (bones_vars (length rule.bones) rule.bones ++ rule.outputs) parts.2 in
       let last = appears second.0 (length names) (bones_vars (length rule.bones) rule.bones) rule.outputs second.2 in
       let most : second.0 ≤ length names = omega (arith, appears_more last.0 (length names) rule.outputs last.2, appears_more second.0 last.0 (bones_vars (length rule.bones) rule.bones) last.1) in
-      let head = head_get done other rule _ fits.hook_declared fits.con_declared g in
-      let base = headed (so_far d done) other rule head.begun in
+      let P : List Symbol → Type 0 = λ symbols. Gets from total (expected.Item ∷ []) (idle now other) symbols in
+      let head = head_get other rule _ fits.hook_declared fits.con_declared (subst P (rule_grouped now rule left) i.gets) in
+      let base = headed now other rule head.begun in
       let listed = lists_get names has.names fits.few_variables base parts.0 second.0 rule.terms rule.inputs has.few_terms has.few_inputs parts.1 second.1 most head.gets in
-      let body = body_get names has.names fits.few_variables (record base { terms = rule.terms; rule_inputs = rule.inputs }) h.named.hooks (hook_own d h) second.0 last.0 rule.bones rule.outputs fits.bones_fit short fits.few_bones has.few_outputs last.1 last.2 listed in
-      let now = closes body.gets (idle (with_rule (so_far d done) (with_names rule (take (length names) names))) (after_rule other rule head.begun body.marks body.closing)) []
-      (rule_finishes (so_far d done) other rule names head.begun body.marks body.target body.closing) in
-      let Q : List (List ℕ) → Type 0 = λ vars. Gets from total (expected.Item ∷ []) (idle (with_rule (so_far d done) (with_names rule vars)) (after_rule other rule head.begun body.marks body.closing)) left in
-      record { other = after_rule other rule head.begun body.marks body.closing; gets = subst Q (take-length names) now }
+      let body = body_get names has.names fits.few_variables (record base { terms = rule.terms; rule_inputs = rule.inputs }) hook_names (hook_own now.hooks own) second.0 last.0 rule.bones rule.outputs fits.bones_fit short fits.few_bones has.few_outputs last.1 last.2 listed in
+      let done = closes body.gets (idle (with_rule now (with_names rule (take (length names) names))) (after_rule other rule head.begun body.marks body.closing)) []
+      (rule_finishes now other rule names head.begun body.marks body.target body.closing) in
+      let Q : List (List ℕ) → Type 0 = λ vars. Gets from total (expected.Item ∷ []) (idle (with_rule now (with_names rule vars)) (after_rule other rule head.begun body.marks body.closing)) left in
+      record { other = after_rule other rule head.begun body.marks body.closing; gets = subst Q (take-length names) done }
 
-  rules_get : (done todo : List Rule) (left : List Symbol) → d.rules ≡ done ++ todo → Idle from total (so_far d done) (flat_map (rule_symbols d) todo ++ left) → Idle from total d left
+-- the rules in the order of the canonical text
+module _ {from : Answer} {total : ℕ} (d : Def) (h : HasText d) where
+  rules_get : (done todo : List Rule) (left : List Symbol) → d.rules ≡ done ++ todo → Idle from total (record { sorts = d.sorts; cons = d.cons; hooks = d.hooks; rules = done }) (flat_map (rule_symbols d) todo ++ left) → Idle from total d left
   rules_get done [] left e i =
-      let P : List Rule → Type 0 = λ rules. Idle from total (so_far d rules) left in
+      let P : List Rule → Type 0 = λ rules. Idle from total (record { sorts = d.sorts; cons = d.cons; hooks = d.hooks; rules = rules }) left in
       subst P (sym (e ∙ append-nil done)) i
   rules_get done (rule ∷ todo) left e i =
+      let now : Def = record { sorts = d.sorts; cons = d.cons; hooks = d.hooks; rules = done } in
       let others = flat_map (rule_symbols d) todo in
-      let P : List Symbol → Type 0 = λ symbols. Gets from total (expected.Item ∷ []) (idle (so_far d done) i.other) symbols in
-      let g = subst P (append_assoc (rule_symbols d rule) others left ∙ rule_grouped d rule others left) i.gets in
+      let P : List Symbol → Type 0 = λ symbols. Idle from total now symbols in
+      let fits = member (RuleFits d) d.rules done todo rule e h.fits.rules_fit in
+      let fits_now : RuleFits now rule = record {
+        hook_declared = fits.hook_declared;
+        con_declared = fits.con_declared;
+        few_variables = fits.few_variables;
+        terms_below = fits.terms_below;
+        inputs_below = fits.inputs_below;
+        outputs_below = fits.outputs_below;
+        few_bones = fits.few_bones;
+        bones_fit = fits.bones_fit;
+      } in
       rules_get (done ++ rule ∷ []) todo left (shift d.rules done todo rule e)
-      (rule_get done i.other rule (others ++ left) (member (RuleFits d) d.rules done todo rule e h.fits.rules_fit) (member RuleHasNames d.rules done todo rule e h.named.rules) (member IsInOrder d.rules done todo rule e h.in_order) g)
+      (rule_get now h.named.hooks h.named.cons rule (others ++ left) h.named.own_hooks fits_now (member RuleHasNames d.rules done todo rule e h.named.rules) (member IsInOrder d.rules done todo rule e h.in_order)
+      (subst P (append_assoc (rule_symbols d rule) others left) i))
 
 -- Nothing was read at first.
 
@@ -485,29 +510,36 @@ all_taken at draft total e =
     let same : (at == total) ≡ true = grind (arith, nat_tests) in
     ap (λ b. if b then Ok draft else Err (Unexpected, at)) same
 
-pub symbols_read : (d : Def) → HasText d → ReadsAs (definition_symbols d) d
+-- what was read of a definition whose items are read, after the words that begin it
+pub items_read : (d : Def) (items : List Symbol) → ((from : Answer) (total : ℕ) → Idle from total no_declaration items → Idle from total d []) → ReadsAs (Named (codes "skel") ∷ Plain (Number (pos 1)) ∷ items) d
 unfolding read_symbols
-symbols_read d h =
-    let ss = definition_symbols d in
+items_read d items lead =
+    let ss = Named (codes "skel") ∷ Plain (Number (pos 1)) ∷ items in
     let from : Answer = run definition_rules 0 0 (expected.Skel ∷ expected.Version ∷ expected.Item ∷ []) nothing ss in
     let start : Gets from (length ss) (expected.Skel ∷ expected.Version ∷ expected.Item ∷ []) nothing ss = record { at = 0; is = refl; place = omega arith } in
     let named = turn start nothing [] (skel_turn 0) in
     let versioned = turn named nothing [] (version_turn named.at) in
-    let rules = flat_map (rule_symbols d) d.rules in
-    let P : List Symbol → Type 0 = λ rules. Gets from (length ss) (expected.Item ∷ []) nothing (flat_map sort_symbols d.sorts ++ (flat_map (con_symbols d.sorts) d.cons ++ (flat_map (hook_symbols d.sorts) d.hooks ++ rules))) in
-    let sorts = sorts_get d h [] d.sorts (flat_map (con_symbols d.sorts) d.cons ++ (flat_map (hook_symbols d.sorts) d.hooks ++ (rules ++ []))) refl
-    (record { other = nothing; gets = subst P (sym (append-nil rules)) versioned }) in
-    let cons = cons_get d h [] d.cons (flat_map (hook_symbols d.sorts) d.hooks ++ (rules ++ [])) refl sorts in
-    let hooks = hooks_get d h [] d.hooks (rules ++ []) refl cons in
-    let whole = rules_get d h [] d.rules [] refl hooks in
+    let whole = lead from (length ss) (record { other = nothing; gets = versioned }) in
     record {
       other = whole.other;
       is = ap (ended definition_rules (length ss)) whole.gets.is ∙ all_taken whole.gets.at (idle d whole.other) (length ss) whole.gets.place;
     }
 
-pub text_read : (text : List ℕ) (d : Def) (tokens : List Token) → tokens_of text ≡ Ok tokens → symbols text tokens ≡ definition_symbols d → ReadsAs (definition_symbols d) d → Says text d
+pub symbols_read : (d : Def) → HasText d → ReadsAs (definition_symbols d) d
+symbols_read d h = items_read d (flat_map sort_symbols d.sorts ++ (flat_map (con_symbols d.sorts) d.cons ++ (flat_map (hook_symbols d.sorts) d.hooks ++ flat_map (rule_symbols d) d.rules))) lead where
+  lead : (from : Answer) (total : ℕ) → Idle from total no_declaration (flat_map sort_symbols d.sorts ++ (flat_map (con_symbols d.sorts) d.cons ++ (flat_map (hook_symbols d.sorts) d.hooks ++ flat_map (rule_symbols d) d.rules))) → Idle from total d []
+  lead from total i =
+      let rules = flat_map (rule_symbols d) d.rules in
+      let P : List Symbol → Type 0 = λ rules. Idle from total no_declaration (flat_map sort_symbols d.sorts ++ (flat_map (con_symbols d.sorts) d.cons ++ (flat_map (hook_symbols d.sorts) d.hooks ++ rules))) in
+      let sorts = sorts_get d h [] d.sorts (flat_map (con_symbols d.sorts) d.cons ++ (flat_map (hook_symbols d.sorts) d.hooks ++ (rules ++ []))) refl (subst P (sym (append-nil rules)) i) in
+      let cons = cons_get d h [] d.cons (flat_map (hook_symbols d.sorts) d.hooks ++ (rules ++ [])) refl sorts in
+      let hooks = hooks_get d h [] d.hooks (rules ++ []) refl cons in
+      rules_get d h [] d.rules [] refl hooks
+
+-- a text of symbols that read so says this definition
+pub text_read : (text : List ℕ) (d : Def) (tokens : List Token) (ss : List Symbol) → tokens_of text ≡ Ok tokens → symbols text tokens ≡ ss → ReadsAs ss d → Says text d
 unfolding read_definition
-text_read text d tokens t s r =
+text_read text d tokens ss t s r =
     let read = ap read_symbols s ∙ r.is in
     record {
       places = (source_of text tokens (idle d r.other)).places;
@@ -519,4 +551,4 @@ pub canonical_says : (d : Def) → HasText d → Says (definition_text d) d
 canonical_says d h =
     let spelled = written_spells (definition_text d) (definition_symbols d) (definition_writes d h) in
     let tokens = text_tokens (definition_text d) (definition_symbols d) spelled in
-    text_read (definition_text d) d tokens.tokens tokens.are (text_symbols (definition_text d) (definition_symbols d) tokens.tokens spelled tokens.are) (symbols_read d h)
+    text_read (definition_text d) d tokens.tokens (definition_symbols d) tokens.are (text_symbols (definition_text d) (definition_symbols d) tokens.tokens spelled tokens.are) (symbols_read d h)

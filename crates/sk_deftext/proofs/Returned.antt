@@ -41,7 +41,8 @@ use Rattle.sk_deftext.specs.declared.bone.Opening.{Opening}
 use Rattle.sk_deftext.specs.declared.bone.Opening.TheVariants as opening
 use Rattle.sk_deftext.specs.declared.fault.DefError.TheVariants.{Unexpected, TooMany}
 use Rattle.sk_deftext.specs.declared.fault.Which.TheVariants as which
-use Rattle.sk_deftext.proofs.Said.{list_symbols, bones_symbols, name_at_word, hook_word_is, filter_facts, branches_fit, branches_few}
+use Rattle.sk_deftext.specs.Spelling.{list_symbols, bones_symbols}
+use Rattle.sk_deftext.proofs.Said.{name_at_word, hook_word_is, filter_facts, branches_fit, branches_few}
 use Rattle.sk_deftext.proofs.Found.{hook_place, appears, appears_more, first_comes, Comes, variable_comes}
 use Rattle.sk_deftext.proofs.Steps.{Answer, Gets, turn, closes, arrow_step, with_vars, args_of_vars, outs_of_vars, exports_of_vars, vars_get}
 

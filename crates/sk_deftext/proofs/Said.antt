@@ -30,49 +30,11 @@ use Rattle.sk_def.specs.declared.def.Hook.{Hook}
 use Rattle.sk_def.specs.declared.def.Rule.{Rule}
 use Rattle.sk_def.specs.declared.def.Def.{Def}
 use Rattle.sk_deftext.specs.Canonical.{name_at, hook_word, con_word, flow_word, arg_word, var_word, target_word, list_text, vars_text, sort_line, con_line, hook_line, indent, branches, filter_line, call_line, or_line, with_line, bones_text, rule_text, definition_text}
+use Rattle.sk_deftext.specs.Spelling.{more_symbols, list_symbols, sort_symbols, con_symbols, hook_symbols, bones_symbols, rule_symbols}
 use Rattle.sk_deftext.specs.Written.{IsWord, IsName, HasText, RuleHasNames}
 use Rattle.sk_deftext.proofs.Spelled.{Writes, EndsWord, both, and_then, nothing_writes, open_writes, close_writes, comma_writes, blank_writes, newline_writes, colon_writes, left_brace_writes, right_brace_writes, arrow_writes, version_writes, word_writes, plain_is_word, key_writes}
 
--- The symbols of lists, lines and bones.
-
-abbrev pub more_symbols : {A : Type 0} → (A → List ℕ) → List A → List Symbol
-more_symbols word [] = Plain RightParen ∷ []
-more_symbols word (x ∷ xs) = Plain Comma ∷ Named (word x) ∷ more_symbols word xs
-
-abbrev pub list_symbols : {A : Type 0} → (A → List ℕ) → List A → List Symbol
-list_symbols word [] = Plain LeftParen ∷ Plain RightParen ∷ []
-list_symbols word (x ∷ xs) = Plain LeftParen ∷ Named (word x) ∷ more_symbols word xs
-
-abbrev pub sort_symbols : List ℕ → List Symbol
-sort_symbols name = Named (codes "sort") ∷ Named name ∷ []
-
-abbrev pub con_symbols : List (List ℕ) → Con → List Symbol
-con_symbols sorts con =
-    Named (codes "con") ∷ Named con.name ∷ Plain Colon ∷ Named (name_at sorts con.sort.0) ∷ list_symbols (arg_word sorts) con.args
-
-abbrev pub hook_symbols : List (List ℕ) → Hook → List Symbol
-hook_symbols sorts hook =
-    Named (codes "hook") ∷ Named hook.name ∷ (list_symbols flow_word hook.inputs
-    ++ (Named (name_at sorts hook.sort.0) ∷ Plain Arrow ∷ list_symbols flow_word hook.outputs))
-
-module _ (hooks : List Hook) (vars : List (List ℕ)) where
-  abbrev pub bones_symbols : ℕ → List Bone → List Symbol
-  bones_symbols size [] = []
-  bones_symbols zero (bone ∷ bones) = []
-  bones_symbols (suc size) (Apply filter args outs ∷ bones) =
-      Named (filter_word filter) ∷ (list_symbols (var_word vars) args ++ (Plain Arrow ∷ (list_symbols (var_word vars) outs ++ bones_symbols size bones)))
-  bones_symbols (suc size) (Call hook args target outs ∷ bones) =
-      Named (hook_word hooks hook) ∷ (list_symbols (var_word vars) args
-      ++ (Named (target_word vars target) ∷ Plain Arrow ∷ (list_symbols (var_word vars) outs ++ bones_symbols size bones)))
-  bones_symbols (suc size) (Either counts exports ∷ bones) =
-      Named (codes "either") ∷ Plain LeftBrace ∷ (join_by (bones_symbols size) (Plain RightBrace ∷ Named (codes "or") ∷ Plain LeftBrace ∷ []) (branches counts bones)
-      ++ (Plain RightBrace ∷ Named (codes "with") ∷ (list_symbols (var_word vars) exports ++ bones_symbols size (after_branches counts bones))))
-
-abbrev pub rule_symbols : Def → Rule → List Symbol
-rule_symbols d rule =
-    Named (codes "rule") ∷ Named (hook_word d.hooks rule.hook) ∷ Named (con_word d.cons rule.con) ∷ (list_symbols (var_word rule.vars) rule.terms
-    ++ (list_symbols (var_word rule.vars) rule.inputs ++ (Plain LeftBrace ∷ (bones_symbols d.hooks rule.vars (length rule.bones) rule.bones
-    ++ (Plain RightBrace ∷ Plain Arrow ∷ list_symbols (var_word rule.vars) rule.outputs)))))
+-- The symbols of the canonical text.
 
 abbrev pub definition_symbols : Def → List Symbol
 definition_symbols d =

@@ -25,7 +25,8 @@ use Rattle.sk_deftext.specs.declared.expected.Listed.TheVariants as listed
 use Rattle.sk_deftext.specs.declared.fault.DefError.{DefError}
 use Rattle.sk_deftext.specs.declared.fault.DefError.TheVariants.{TooMany}
 use Rattle.sk_deftext.specs.declared.fault.Which.TheVariants as which
-use Rattle.sk_deftext.proofs.Said.{more_symbols, list_symbols, name_at_word}
+use Rattle.sk_deftext.specs.Spelling.{more_symbols, list_symbols}
+use Rattle.sk_deftext.proofs.Said.{name_at_word}
 use Rattle.sk_deftext.proofs.Found.{Comes, variable_comes, appears_more, first_comes}
 
 abbrev pub Answer : Type 0

@@ -5,6 +5,7 @@ pub mod Meets
 pub mod Met
 pub mod Places
 pub mod Reading
+pub mod Spelling
 pub mod Texts
 pub mod Words
 pub mod Written

@@ -27,7 +27,7 @@ use std::alloc::Global;
 
 /// What a word is at the start of a bone.
 #[derive(Clone, Copy)]
-pub(crate) enum Opening {
+pub enum Opening {
     Filter(Filter),
     Hook(HookId),
     Branches,

@@ -11,7 +11,7 @@ use std::alloc::Global;
 
 /// What was read so far: the items that were read to their ends, and beside them the parts of the one that is being read.
 #[derive(Drop)]
-pub(crate) struct Draft {
+pub struct Draft {
     pub def: Def,
     /// The word `hook` of each hook.
     pub hooks: Seq<usize>,
@@ -87,7 +87,7 @@ impl Draft {
 
 /// A branch bone whose branches are being read.
 #[derive(Drop)]
-pub(crate) struct OpenBone {
+pub struct OpenBone {
     /// The bones before it in its list.
     pub before: BoneList,
     /// How many bones each finished branch has, and these bones.
@@ -97,7 +97,7 @@ pub(crate) struct OpenBone {
 
 /// The first word of a filter or hook bone.
 #[derive(Clone, Copy)]
-pub(crate) enum BoneHead {
+pub enum BoneHead {
     Filter(Filter),
     Hook(HookId),
 }

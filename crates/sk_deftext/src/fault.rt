@@ -60,7 +60,7 @@ impl From<NoMemory> for DefFault {
 
 /// Why tokens are no definition.
 #[derive(Clone, Copy)]
-pub(crate) enum DefError {
+pub enum DefError {
     Unexpected,
     Unknown,
     Duplicate,
