@@ -34,7 +34,8 @@ use Rattle.sk_spell.proofs.AbsTupleCells.{added_spot, written, Lists, lists_none
 use Rattle.sk_spell.proofs.AbsTupleNames.{same_names, Placed, placed_so, Adding, adding_first, adding_front, adding_none, names_of, distinct_one}
 use Rattle.sk_spell.proofs.AbsTupleForms.{IsTaken, Answer, told, told_is, read_to, reached, run_ends, Wants, next_is, wants_more, IsOnce, paddings_are_empty, all_proper}
 use Rattle.sk_spell.proofs.AbsTupleGrammar.{Expected, Grammar, grammar, truth_met, with_bool, with_val, with_truth, with_name, then_is, else_is, first_is, second_is, third_is}
-use Rattle.sk_spell.proofs.SymbolForms.{open_is, close_is, comma_is, equals_is, slash_is, question_is, left_brace_is, right_brace_is, word_is, none_is, truths_is}
+use Rattle.sk_spell.proofs.SymbolForms.{open_is, close_is, comma_is, equals_is, slash_is, question_is, left_brace_is, right_brace_is, word_is}
+use Rattle.sk_spell.proofs.TruthForms.{none_is, truths_is}
 use Rattle.sk_spell.proofs.AbsTupleSteps.{IsSome, item_step}
 
 -- a list in two parts

@@ -8,6 +8,7 @@ pub mod AbsTupleForms
 pub mod AbsTupleGrammar
 pub mod AbsTupleSteps
 pub mod SymbolForms
+pub mod TruthForms
 pub mod AbsTupleSpelled
 pub mod AbsTupleOnly
 pub mod AbsTuples
@@ -27,3 +28,19 @@ pub mod JobStarts
 pub mod JobWhole
 pub mod JobSuffix
 pub mod JobParts
+pub mod TextsSpelled
+pub mod DefinitionRuns
+pub mod DefinitionSymbols
+pub mod DefinitionVars
+pub mod DefinitionLists
+pub mod DefinitionItems
+pub mod DefinitionRule
+pub mod DefinitionBones
+pub mod DefinitionBoneSteps
+pub mod DefinitionOneBone
+pub mod DefinitionBranches
+pub mod DefinitionBonesRead
+pub mod DefinitionRuleRead
+pub mod DefinitionLeads
+pub mod DefinitionRead
+pub mod Definitions

@@ -1,14 +1,8 @@
--- What tests tell of a symbol.
-use Rattle.std.proofs.Common.{◌≡◌, ℕ, Bool, true, false, cond, List, refl, ap, ◌∙◌, Option, Some, None}
-use Rattle.std.specs.Prelude.{codes}
-use Rattle.std.specs.Str.{bytes_eq}
+-- What tests tell of a symbol: which mark, word or number it is.
+use Rattle.std.proofs.Common.{◌≡◌, ℕ, true, ℤ, List, refl, ap, Some}
 use Rattle.std.proofs.lemmas.Option.{same_Some}
-use Rattle.std.proofs.lemmas.Slice.Eq.{bytes_eq-Decides}
-use Rattle.sk_lex.specs.Symbols.{Symbol, Named, Plain, word_of, is_open, is_close, is_comma, is_equals, is_slash, is_question, is_left_brace, is_right_brace}
+use Rattle.sk_lex.specs.Symbols.{Symbol, Named, Plain, word_of, number_of, is_open, is_close, is_comma, is_colon, is_arrow, is_equals, is_slash, is_question, is_left_brace, is_right_brace}
 use Rattle.sk_lex.specs.declared.token.TokenKind.TheVariants as token
-use Rattle.sk_lattice.specs.Texts.{truths_text, bool_text}
-use Rattle.sk_lattice.specs.declared.truth.AbsBool.{AbsBool}
-use Rattle.sk_table.specs.Tuples.{truths_named, truths_of, is_none_word}
 
 pub open_is : (symbol : Symbol) → is_open symbol ≡ true → symbol ≡ Plain token.LeftParen
 open_is (Plain token.LeftParen) h = refl
@@ -21,6 +15,14 @@ close_is symbol h = absurd (cc)
 pub comma_is : (symbol : Symbol) → is_comma symbol ≡ true → symbol ≡ Plain token.Comma
 comma_is (Plain token.Comma) h = refl
 comma_is symbol h = absurd (cc)
+
+pub colon_is : (symbol : Symbol) → is_colon symbol ≡ true → symbol ≡ Plain token.Colon
+colon_is (Plain token.Colon) h = refl
+colon_is symbol h = absurd (cc)
+
+pub arrow_is : (symbol : Symbol) → is_arrow symbol ≡ true → symbol ≡ Plain token.Arrow
+arrow_is (Plain token.Arrow) h = refl
+arrow_is symbol h = absurd (cc)
 
 pub equals_is : (symbol : Symbol) → is_equals symbol ≡ true → symbol ≡ Plain token.Equals
 equals_is (Plain token.Equals) h = refl
@@ -46,28 +48,6 @@ pub word_is : (symbol : Symbol) (word : List ℕ) → word_of symbol ≡ Some wo
 word_is (Named bytes) word h = ap Named (same_Some bytes word h)
 word_is (Plain kind) word h = absurd (cc)
 
-pub none_is : (symbol : Symbol) → is_none_word symbol ≡ true → symbol ≡ Named (codes "none")
-none_is (Named bytes) h = ap Named ((bytes_eq-Decides bytes (codes "none")).0 h)
-none_is (Plain kind) h = absurd (cc)
-
-abbrev truth_set : Bool → Bool → AbsBool
-truth_set some other = record { has_true = some; has_false = other }
-
-text_is : (word : List ℕ) (some other : Bool) (set : AbsBool) → bytes_eq word (truths_text some other) ≡ true → Some (truth_set some other) ≡ Some set → word ≡ bool_text set
-text_is word some other set e h = (bytes_eq-Decides word (truths_text some other)).0 e ∙ ap bool_text (same_Some (truth_set some other) set h)
-
-truths_word : (word : List ℕ) (set : AbsBool) → truths_named word ≡ Some set → word ≡ bool_text set
-truths_word word set h =
-    by (bytes_eq word (truths_text false false)) (bytes_eq word (truths_text true false)) (bytes_eq word (truths_text false true)) (bytes_eq word (truths_text true true)) refl refl refl refl h where
-      by : (a b c e : Bool) → bytes_eq word (truths_text false false) ≡ a → bytes_eq word (truths_text true false) ≡ b → bytes_eq word (truths_text false true) ≡ c →
-          bytes_eq word (truths_text true true) ≡ e →
-          cond {A = Option AbsBool} a (Some (truth_set false false)) (cond b (Some (truth_set true false)) (cond c (Some (truth_set false true)) (cond e (Some (truth_set true true)) None))) ≡ Some set → word ≡ bool_text set
-      by true b c e f g i j k = text_is word false false set f k
-      by false true c e f g i j k = text_is word true false set g k
-      by false false true e f g i j k = text_is word false true set i k
-      by false false false true f g i j k = text_is word true true set j k
-      by false false false false f g i j k = absurd (cc)
-
-pub truths_is : (symbol : Symbol) (set : AbsBool) → truths_of symbol ≡ Some set → symbol ≡ Named (bool_text set)
-truths_is (Named bytes) set h = ap Named (truths_word bytes set h)
-truths_is (Plain kind) set h = absurd (cc)
+pub number_is : (symbol : Symbol) (value : ℤ) → number_of symbol ≡ Some value → symbol ≡ Plain (token.Number value)
+number_is (Plain (token.Number found)) value h = ap (λ z. Plain (token.Number z)) (same_Some found value h)
+number_is symbol value h = absurd (cc)

@@ -1,6 +1,9 @@
+pub mod Texts
+pub mod DefinitionSpelling
 pub mod TupleSpelling
 pub mod AbsTupleSpelling
 pub mod Calls
 pub mod TableSpelling
 pub mod TableInFull
 pub mod JobSpelling
+pub mod TextSpelling

@@ -1,11 +1,19 @@
 //! The laws of reading: a reader reads exactly what is spelled so.
 ghost use Rattle.sk_spell.specs.AbsTupleSpelling.{AbsTuplesAreReadExactly};
+ghost use Rattle.sk_spell.specs.DefinitionSpelling.{DefinitionsAreReadExactly};
 ghost use Rattle.sk_spell.specs.JobSpelling.{JobsAreReadExactly, OnlyJobsAreRead};
 ghost use Rattle.sk_spell.specs.TableInFull.{TablesAreSpelledInFull};
 ghost use Rattle.sk_spell.specs.TableSpelling.{TablesAreReadExactly};
+ghost use Rattle.sk_spell.specs.TextSpelling.{TableTextsAreReadExactly, JobTextsAreReadExactly};
 ghost use Rattle.sk_spell.specs.TupleSpelling.{TuplesAreReadExactly};
 
 use sk_lattice::NumDom;
+
+/// A text says a definition exactly where the definition has a text and the text's tokens are its own: `skel 1`, and items
+/// in any order that each cite only what is declared before them.
+pub fn definitions_are_read_exactly()
+    ensures { DefinitionsAreReadExactly }
+{}
 
 /// Reading a tuple gives its values, the names with its own, and the place after it, exactly where the symbols from that
 /// place on begin with its spelling: given that the names that stood are different words.
@@ -42,4 +50,15 @@ pub fn jobs_are_read_exactly()
 /// What is read as a job was spelled so, whatever the definition.
 pub fn only_jobs_are_read()
     ensures { OnlyJobsAreRead }
+{}
+
+/// Over every domain, a text is read as a table exactly where its tokens spell the table, its tuples value by value: given
+/// that the names are different words.
+pub fn table_texts_are_read_exactly<D: NumDom>()
+    ensures { TableTextsAreReadExactly D.domain D.texts }
+{}
+
+/// A text is read as a job exactly where its tokens are the job's: given that each constructor is found by its own name.
+pub fn job_texts_are_read_exactly()
+    ensures { JobTextsAreReadExactly }
 {}
