@@ -1,0 +1,12 @@
+pub mod Branches
+pub mod ListParts
+pub mod FirstBone
+pub mod SortsGiven
+pub mod OnlySeen
+pub mod AllSeen
+pub mod BoneChecks
+pub mod SortedExactly
+pub mod HeaderSorts
+pub mod GoodExactly
+pub mod FirstFailing
+pub mod Noes
