@@ -1,6 +1,6 @@
 -- Only spelled abstract tuples are read.
 use Rattle.std.proofs.Common.{◌≡◌, ℕ, zero, suc, ◌+◌, ◌-◌, ◌<◌, ◌≤◌, Bool, true, false, cond, List, [], ◌∷◌, ◌++◌, length, map, refl, sym, ap, subst, ◌∙◌, arith, append_assoc, length-append, append-nil, Option, Some, None, Result, Ok, Err, inl, inr}
-use Rattle.std.specs.Prelude.{All, MatchResult, slice_get, is_some, ◌⊎◌}
+use Rattle.std.specs.Prelude.{All, slice_get, ◌⊎◌}
 use Rattle.std.specs.List.{flat_map, list_any, IsDistinct}
 use Rattle.std.specs.Str.{bytes_eq}
 use Rattle.std.proofs.lemmas.List.Elements.{All-nil, All-cons}
@@ -27,7 +27,7 @@ use Rattle.sk_lattice.specs.declared.flow.AbsFlow.TheVariants as flow
 use Rattle.sk_table.specs.declared.fault.TableError.{TableError}
 use Rattle.sk_table.specs.declared.fault.TableError.TheVariants as error
 use Rattle.sk_table.specs.Tuples as spec
-use Rattle.sk_table.specs.Tuples.{Reading, ReadTuple, Met, met, refused, more_taken, element_at, with_element, with_flow, with_num, truths_named, truths_of, is_none_word, begun, value, closing, item, after, val_truth, cell_truth, all_cells, ended, is_listed, with_cell, place_for, named, first_name, after_name, mark, step, tuple_rules, nothing, whole, read_symbols, read_tuple}
+use Rattle.sk_table.specs.Tuples.{Reading, ReadTuple, met, refused, more_taken, element_at, with_element, with_flow, with_num, truths_of, is_none_word, value, closing, after, all_cells, ended, is_listed, with_cell, place_for, named, mark, step, tuple_rules, nothing, read_symbols, read_tuple}
 use Rattle.sk_table.proofs.Turns.{Gets, turn, long_turn, left_is}
 use Rattle.sk_spell.specs.AbsTupleSpelling.{WrittenFlow, Number, Truths, Parts, Cells, NoStore, sort_of, names_listed, flow_of, BeginWithNumber, mark_symbols, BeginWithCell, BeginWithMore, BeginWithPieces, BeginWithFlow, BeginWithAbsTuple}
 use Rattle.sk_spell.proofs.AbsTupleCells.{added_spot, written, Lists, lists_none, lists_grown, lists_one, listed_so, with_one, store_meant, is_none}

@@ -23,7 +23,7 @@ use Rattle.sk_lattice.specs.declared.store.AbsStore.TheVariants as store
 use Rattle.sk_lattice.specs.declared.flow.AbsFlow.{AbsFlow}
 use Rattle.sk_lattice.specs.declared.flow.AbsFlow.TheVariants as flow
 use Rattle.sk_table.specs.Tuples as spec
-use Rattle.sk_table.specs.Tuples.{Reading, ReadTuple, element_at, with_element, with_flow, with_num, ended, is_listed, with_cell, place_for, step, tuple_rules, nothing, whole, read_symbols, read_tuple}
+use Rattle.sk_table.specs.Tuples.{Reading, ReadTuple, element_at, with_element, with_flow, with_num, ended, is_listed, with_cell, step, tuple_rules, nothing, read_symbols, read_tuple}
 use Rattle.sk_table.proofs.Turns.{Gets, turn, long_turn, left_is}
 use Rattle.sk_spell.specs.AbsTupleSpelling.{WrittenFlow, Number, Truths, Parts, Cells, NoStore, sort_of, names_listed, flow_of, BeginWithNumber, mark_symbols, BeginWithCell, BeginWithMore, BeginWithPieces, BeginWithFlow, BeginWithAbsTuple}
 use Rattle.sk_spell.proofs.AbsTupleCells.{spot, added_spot, Lists, lists_none, lists_grown, lists_one, listed_so, with_one, store_meant}

@@ -11,7 +11,7 @@ use Rattle.sk_lattice.specs.Texts.{truths_text, bool_text}
 use Rattle.sk_lattice.specs.declared.truth.AbsBool.{AbsBool}
 use Rattle.sk_table.specs.declared.fault.TableError.{TableError}
 use Rattle.sk_table.specs.Tuples as spec
-use Rattle.sk_table.specs.Tuples.{Reading, met, refused, more_taken, element_at, with_element, with_flow, with_num, truths_named, truths_of, begun, value, item, after, val_truth, cell_truth, ended, is_listed, with_cell, place_for, named, first_name, after_name, mark, step}
+use Rattle.sk_table.specs.Tuples.{Reading, met, more_taken, element_at, truths_named, truths_of, value, ended, is_listed, with_cell, place_for, named, step}
 use Rattle.sk_spell.specs.AbsTupleSpelling.{BeginWithNumber}
 use Rattle.sk_spell.proofs.AbsTupleForms.{IsTaken}
 use Rattle.sk_spell.proofs.AbsTupleGrammar.{Expected, Grammar, truth_met, with_bool, with_val, with_truth, with_name, else_is}

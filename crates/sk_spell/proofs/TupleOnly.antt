@@ -26,7 +26,7 @@ use Rattle.sk_value.specs.declared.value.Value.{Value}
 use Rattle.sk_deriv.specs.declared.fault.TupleError.{TupleError}
 use Rattle.sk_deriv.specs.declared.fault.TupleError.TheVariants.{Unexpected, WrongCount, Duplicate}
 use Rattle.sk_deriv.specs.Reading as spec
-use Rattle.sk_deriv.specs.Reading.{Reading, Met, ReadTuple, met, at_symbol, truth_named, truth_of, value_of, is_set, with_value, given, value, begun, closing, item, after, named, first_name, after_name, set_to, step, tuple_rules, nothing, read_symbols, read_tuple}
+use Rattle.sk_deriv.specs.Reading.{Reading, Met, ReadTuple, met, at_symbol, truth_named, truth_of, value_of, is_set, with_value, given, value, closing, item, after, named, first_name, after_name, set_to, step, tuple_rules, nothing, read_symbols, read_tuple}
 use Rattle.sk_spell.specs.TupleSpelling.{Entry, Written, number, truth, either, store, sort_of, value_symbol, spelling, words_set, value_for, flow_of, BeginWithTuple}
 use Rattle.sk_spell.proofs.SymbolForms.{open_is, close_is, comma_is, equals_is, left_brace_is, right_brace_is, word_is}
 use Rattle.sk_spell.proofs.TupleStores.{word_of_entry, placed, set_once_more, Holds, holds_none, holds_more, padded_is}

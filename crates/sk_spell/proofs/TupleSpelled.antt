@@ -22,7 +22,7 @@ use Rattle.sk_value.specs.declared.value.Value.{Value}
 use Rattle.sk_deriv.specs.declared.fault.TupleError.{TupleError}
 use Rattle.sk_deriv.specs.declared.fault.TupleError.TheVariants.{WrongCount, Duplicate}
 use Rattle.sk_deriv.specs.Reading as spec
-use Rattle.sk_deriv.specs.Reading.{Reading, ReadTuple, met, at_symbol, next_sort, value_of, is_set, with_value, value, item, after, named, first_name, after_name, set_to, step, tuple_rules, nothing, read_symbols, read_tuple}
+use Rattle.sk_deriv.specs.Reading.{Reading, ReadTuple, met, at_symbol, next_sort, value_of, with_value, value, item, after, named, first_name, after_name, set_to, step, tuple_rules, nothing, read_symbols, read_tuple}
 use Rattle.sk_spell.specs.TupleSpelling.{Entry, Written, number, truth, either, store, sort_of, value_symbol, spelling, words_set, value_for, flow_of, BeginWithTuple}
 use Rattle.sk_spell.proofs.TupleStores.{word_of_entry, placed, unset_before, Holds, holds_none, holds_more, padded_is}
 use Rattle.sk_spell.proofs.TupleForms.{Expected, Item, After, FirstName, NextName, Equals, SetTo, AfterName, entries_inside, entries_more, value_then, more, inside, spelling_then, Answer, told, Comes, outside, within, Awaits, awaited, got}
