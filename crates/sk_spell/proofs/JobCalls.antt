@@ -46,39 +46,26 @@ module _ {X A E : Type 0} (reads : List FlowSort → List (List ℕ) → ℕ →
   pub call_stands : (from : Border) (hook : HookId) (point : ℕ) (h : Heads d nodes from.left hook point) (ins : List X) (names : List (List ℕ)) (end : ℕ) →
       reads (inputs_of d hook) from.names (from.at + 2) h.inside ≡ Ok (made ins names, end) → CallStands Inputs d nodes from hook point ins (further (past from 2 h.inside) end names)
   call_stands from hook point h ins names end e =
-      let f = h.fits in
-      let sorts = inputs_are d nodes hook point f in
-      let there : reads f.entry.inputs from.names (from.at + 2) h.inside ≡ Ok (made ins names, end) = ap (λ s. reads s from.names (from.at + 2) h.inside) (sym sorts) ∙ e in
+      let sorts = inputs_are d nodes hook h.declared h.call.called in
+      let there : reads h.declared.inputs from.names (from.at + 2) h.inside ≡ Ok (made ins names, end) = ap (λ s. reads s from.names (from.at + 2) h.inside) (sym sorts) ∙ e in
       record {
-        word = h.word;
-        entry = f.entry;
-        node = f.node;
+        declared = h.declared;
         inside = h.inside;
-        symbols_are = h.symbols_are;
-        hook_is = h.named;
-        entry_is = f.entry_is;
-        node_is = f.node_is;
-        sort_is = f.sort_is;
-        inputs_are = between (reads f.entry.inputs from.names (from.at + 2) h.inside) (made ins names) (past from 2 h.inside) end names there
-            (within f.entry.inputs from.names (from.at + 2) h.inside (made ins names) end there);
+        call = h.call;
+        inputs_are = between (reads h.declared.inputs from.names (from.at + 2) h.inside) (made ins names) (past from 2 h.inside) end names there
+            (within h.declared.inputs from.names (from.at + 2) h.inside (made ins names) end there);
       }
 
   module _ (from : Border) (hook : HookId) (point : ℕ) (ins : List X) (to : Border) (c : CallStands Inputs d nodes from hook point ins to) where
     abbrev pub heads : Heads d nodes from.left hook point
-    heads = record {
-      word = c.word;
-      inside = c.inside;
-      symbols_are = c.symbols_are;
-      named = c.hook_is;
-      fits = record { entry = c.entry; node = c.node; entry_is = c.entry_is; node_is = c.node_is; sort_is = c.sort_is };
-    }
+    heads = record { declared = c.declared; inside = c.inside; call = c.call }
 
     pub inputs_found : reads (inputs_of d hook) from.names (from.at + 2) c.inside ≡ Ok (made ins to.names, to.at)
-    inputs_found = ap (λ s. reads s from.names (from.at + 2) c.inside) (inputs_are d nodes hook point heads.fits) ∙ c.inputs_are.found_is
+    inputs_found = ap (λ s. reads s from.names (from.at + 2) c.inside) (inputs_are d nodes hook c.declared c.call.called) ∙ c.inputs_are.found_is
 
     -- what is left after the call is shorter, and reading goes on there
     pub left_is : (one : Symbol) (left : List Symbol) → from.left ≡ one ∷ left → left ≡ (Plain (token.Number (pos point)) ∷ c.inputs_are.own) ++ to.left
-    left_is one left e = let same : left ≡ Plain (token.Number (pos point)) ∷ c.inside = ap after_first (sym e ∙ c.symbols_are) in same ∙ ap (λ s. Plain (token.Number (pos point)) ∷ s) c.inputs_are.symbols_are
+    left_is one left e = let same : left ≡ Plain (token.Number (pos point)) ∷ c.inside = ap after_first (sym e ∙ c.call.symbols_are) in same ∙ ap (λ s. Plain (token.Number (pos point)) ∷ s) c.inputs_are.symbols_are
 
     pub shorter : (one : Symbol) (left : List Symbol) → from.left ≡ one ∷ left → length to.left < length left
     shorter one left e = omega (arith, ap length (left_is one left e), length-append c.inputs_are.own to.left)
@@ -87,7 +74,7 @@ module _ {X A E : Type 0} (reads : List FlowSort → List (List ℕ) → ℕ →
     pub call_place : to.at + length to.left ≡ from.at + length from.left
     call_place =
         let i = c.inputs_are in
-        omega (arith, i.place_is, ap length i.symbols_are, length-append i.own to.left, ap length c.symbols_are)
+        omega (arith, i.place_is, ap length i.symbols_are, length-append i.own to.left, ap length c.call.symbols_are)
 
     pub call_past : {S T C : Type 0} (rules : Rules S T C) (expected : List S) (state : T) (one : Symbol) (left : List Symbol) → from.left ≡ one ∷ left →
         run rules (to.at - (from.at + 1)) (from.at + 1) expected state left ≡ run rules 0 to.at expected state to.left

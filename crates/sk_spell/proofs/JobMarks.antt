@@ -1,9 +1,10 @@
 -- Words, hooks and points: what a symbol is told to be, and the other way round.
-use Rattle.std.proofs.Common.{◌≡◌, ℕ, ℤ, pos, negsuc, ◌+◌, Bool, true, false, cond, List, [], ◌∷◌, drop, refl, ap, subst, ◌∙◌, Option, Some, None, Result, Ok, Err}
+use Rattle.std.proofs.Common.{◌≡◌, ℕ, ℤ, pos, negsuc, ◌+◌, Bool, true, false, cond, List, [], ◌∷◌, drop, refl, sym, ap, subst, ◌∙◌, Option, Some, None, Result, Ok, Err}
 use Rattle.std.specs.Prelude.{slice_get, ◌==◌}
 use Rattle.std.specs.Option.{option_map, option_map_or}
 use Rattle.std.proofs.lemmas.Bool.{eqb-true, eq-eqb}
 use Rattle.std.proofs.lemmas.Bool.Decides.{Decides-int_eq}
+use Rattle.std.proofs.lemmas.Option.{same_Some}
 use Rattle.std.proofs.lemmas.Slice.Eq.{bytes_eq-Decides}
 use Rattle.sk_base.specs.Answer.{◌>>=◌}
 use Rattle.sk_lex.specs.Symbols.{Symbol, Named, Plain, number_of}
@@ -19,6 +20,8 @@ use Rattle.sk_bench.specs.declared.job.JobError.{JobError}
 use Rattle.sk_bench.specs.declared.job.JobError.TheVariants.{WrongPoint}
 use Rattle.sk_bench.specs.Jobs.{Met, placed, at_front, mark, is_word, is_one, named_hook, hook_of, inputs_of, has_sort_of, is_point, point_of}
 use Rattle.sk_bench.specs.Jobs as job
+use Rattle.sk_spell.specs.Calls.{IsDeclared, IsNodeOf, CallAt}
+use Rattle.sk_spell.proofs.CallsFound.{found_is_called, hook_is_found}
 use Rattle.sk_spell.proofs.JobReaders.{bound_so}
 
 -- What is chosen by a test.
@@ -103,8 +106,17 @@ module _ (d : Def) (nodes : List TermNode) (hook : HookId) where
       ap (λ (o : Option TermNode). has_sort_of d hook (option_map (sort_of_node d) o)) f.node_is ∙ ap (λ (o : Option SortId). has_sort_of d hook (Some o)) f.sort_is
       ∙ ap (λ (o : Option Hook). option_map_or (λ (h : Hook). f.entry.sort.0 == h.sort.0) o false) f.entry_is ∙ eq-eqb f.entry.sort.0 f.entry.sort.0 refl
 
-  pub inputs_are : (point : ℕ) (f : Fits point) → inputs_of d hook ≡ f.entry.inputs
-  inputs_are point f = ap (λ (o : Option Hook). option_map_or (λ (h : Hook). h.inputs) o []) f.entry_is
+  pub inputs_are : (declared : Hook) → IsDeclared d hook declared → inputs_of d hook ≡ declared.inputs
+  inputs_are declared h = ap (λ (o : Option Hook). option_map_or (λ (h : Hook). h.inputs) o []) h.is
+
+  -- a node that is a point of a declared hook's sort, both ways
+  fits_node : (declared : Hook) (point : ℕ) → IsDeclared d hook declared → Fits point → IsNodeOf d nodes declared.sort point
+  fits_node declared point h f =
+      let same : f.entry ≡ declared = same_Some f.entry declared (sym f.entry_is ∙ h.is) in
+      record { node = f.node; is = f.node_is; sort_is = f.sort_is ∙ ap (λ (entry : Hook). Some entry.sort) same }
+
+  node_fits : (declared : Hook) (point : ℕ) → IsDeclared d hook declared → IsNodeOf d nodes declared.sort point → Fits point
+  node_fits declared point h n = record { entry = declared; node = n.node; entry_is = h.is; node_is = n.is; sort_is = n.sort_is }
 
   point_so : (symbol : Symbol) (point : ℕ) → point_of d nodes hook (number_of symbol) ≡ Ok point → (symbol ≡ Plain (token.Number (pos point))) × Fits point
   unfolding point_of job.numbered_point
@@ -121,13 +133,11 @@ module _ (d : Def) (nodes : List TermNode) (hook : HookId) where
 -- A hook and a point.
 
 module _ (d : Def) (nodes : List TermNode) where
-  -- the symbols of a hook's name and of a number of a point of its sort, with those after them
+  -- the symbols begin with a call, and those after it
   pub record Heads (symbols : List Symbol) (hook : HookId) (point : ℕ) : Type 0 where
-    pub word : List ℕ
+    pub declared : Hook
     pub inside : List Symbol
-    pub symbols_are : symbols ≡ Named word ∷ Plain (token.Number (pos point)) ∷ inside
-    pub named : hook_named d word ≡ Some hook
-    pub fits : Fits d nodes hook point
+    pub call : CallAt d (IsNodeOf d nodes) hook declared point symbols inside
 
   abbrev pub headed : {B : Type 0} → ℕ → (HookId → ℕ → List Symbol → Met B) → List Symbol → Met B
   headed at inner symbols =
@@ -145,11 +155,15 @@ module _ (d : Def) (nodes : List TermNode) where
       let c = bound_so (at_front (at + 1) (λ symbol. point_of d nodes b.0 (number_of symbol)) (two ∷ inside)) (λ point. inner b.0 point inside) x b.2 in
       let w = hook_so d one b.0 (placed_so at (hook_of d one) b.0 b.1) in
       let p = point_so d nodes b.0 two c.0 (placed_so (at + 1) (point_of d nodes b.0 (number_of two)) c.0 c.1) in
-      let same : one ∷ two ∷ inside ≡ Named w.0 ∷ Plain (token.Number (pos c.0)) ∷ inside = ap (λ s. s ∷ two ∷ inside) w.1 ∙ ap (λ s. Named w.0 ∷ s ∷ inside) p.0 in
-      (b.0, c.0, record { word = w.0; inside = inside; symbols_are = same; named = w.2; fits = p.1 }, c.2)
+      let k = found_is_called d w.0 b.0 w.2 in
+      let same : one ∷ two ∷ inside ≡ Named k.declared.name ∷ Plain (token.Number (pos c.0)) ∷ inside =
+      ap (λ s. s ∷ two ∷ inside) (w.1 ∙ ap Named (sym k.named)) ∙ ap (λ s. Named k.declared.name ∷ s ∷ inside) p.0 in
+      let call : CallAt d (IsNodeOf d nodes) b.0 k.declared c.0 (one ∷ two ∷ inside) inside =
+      record { called = k.called; pointed = fits_node d nodes b.0 k.declared c.0 k.called p.1; symbols_are = same } in
+      (b.0, c.0, record { declared = k.declared; inside = inside; call = call }, c.2)
 
   pub heads_are : {B : Type 0} (at : ℕ) (inner : HookId → ℕ → List Symbol → Met B) (symbols : List Symbol) (hook : HookId) (point : ℕ) (h : Heads symbols hook point) → headed at inner symbols ≡ inner hook point h.inside
   heads_are at inner symbols hook point h =
-      ap (headed at inner) h.symbols_are
-      ∙ ap (λ r. placed at r >>= λ hook. (placed (at + 1) (point_of d nodes hook (number_of (Plain (token.Number (pos point))))) >>= λ point. inner hook point h.inside)) (hook_is d h.word hook h.named)
-      ∙ ap (λ r. placed (at + 1) r >>= λ point. inner hook point h.inside) (point_is d nodes hook point h.fits)
+      ap (headed at inner) h.call.symbols_are
+      ∙ ap (λ r. placed at r >>= λ hook. (placed (at + 1) (point_of d nodes hook (number_of (Plain (token.Number (pos point))))) >>= λ point. inner hook point h.inside)) (hook_is d h.declared.name hook (hook_is_found d hook h.declared h.call.called))
+      ∙ ap (λ r. placed (at + 1) r >>= λ point. inner hook point h.inside) (point_is d nodes hook point (node_fits d nodes hook h.declared point h.call.called h.call.pointed))

@@ -111,17 +111,11 @@ module _ {D : Type 0} (domain : Domain D) (texts : DomainTexts D) (exactly : Abs
 -- Calls.
 
 call_as : {X : Type 0} (I J : List FlowSort → Border → List X → Border → Type 0) (d : Def) (nodes : List TermNode) (from : Border) (hook : HookId) (point : ℕ) (ins : List X) (to : Border) (c : CallStands I d nodes from hook point ins to) →
-    J c.entry.inputs (past from 2 c.inside) ins to → CallStands J d nodes from hook point ins to
+    J c.declared.inputs (past from 2 c.inside) ins to → CallStands J d nodes from hook point ins to
 call_as I J d nodes from hook point ins to c j = record {
-  word = c.word;
-  entry = c.entry;
-  node = c.node;
+  declared = c.declared;
   inside = c.inside;
-  symbols_are = c.symbols_are;
-  hook_is = c.hook_is;
-  entry_is = c.entry_is;
-  node_is = c.node_is;
-  sort_is = c.sort_is;
+  call = c.call;
   inputs_are = j;
 }
 
@@ -132,39 +126,39 @@ module _ (d : Def) (nodes : List TermNode) (tuples : TuplesAreReadExactly) where
   start_spelled from None to different s = s
   start_spelled from (Some start) to different s =
       let c = s.call_is in
-      let i = tuple_spelled tuples c.entry.inputs (past (past from 1 s.call) 2 c.inside) start.ins to different c.inputs_are in
+      let i = tuple_spelled tuples c.declared.inputs (past (past from 1 s.call) 2 c.inside) start.ins to different c.inputs_are in
       record { call = s.call; symbols_are = s.symbols_are; call_is = call_as found.TupleStands TupleStands d nodes (past from 1 s.call) start.hook start.point start.ins to c i }
 
   start_found : (from : Border) (start : Option Start) (to : Border) → Different from → StartStands d nodes from start to → found.StartStands d nodes from start to
   start_found from None to different s = s
   start_found from (Some start) to different s =
       let c = s.call_is in
-      let i = tuple_found tuples c.entry.inputs (past (past from 1 s.call) 2 c.inside) start.ins to different c.inputs_are in
+      let i = tuple_found tuples c.declared.inputs (past (past from 1 s.call) 2 c.inside) start.ins to different c.inputs_are in
       record { call = s.call; symbols_are = s.symbols_are; call_is = call_as TupleStands found.TupleStands d nodes (past from 1 s.call) start.hook start.point start.ins to c i }
 
   start_differ : (from : Border) (start : Option Start) (to : Border) → Different from → StartStands d nodes from start to → Different to
   start_differ from None to different s = subst Different (sym s) different
   start_differ from (Some start) to different s =
       let c = s.call_is in
-      tuple_differ tuples c.entry.inputs (past (past from 1 s.call) 2 c.inside) start.ins to different c.inputs_are
+      tuple_differ tuples c.declared.inputs (past (past from 1 s.call) 2 c.inside) start.ins to different c.inputs_are
 
 module _ {D : Type 0} (domain : Domain D) (texts : DomainTexts D) (exactly : AbsTuplesAreReadExactly domain texts) (d : Def) (nodes : List TermNode) (from : Border) (cover : Cover D) (to : Border) (different : Different from) where
   cover_spelled : found.CoverStands domain texts d nodes from cover to → CoverStands domain texts d nodes from cover to
   cover_spelled s =
       let c = s.call_is in
-      let i = abstract_spelled domain texts exactly c.entry.inputs (past (past from 2 s.call) 2 c.inside) cover.ins to different c.inputs_are in
+      let i = abstract_spelled domain texts exactly c.declared.inputs (past (past from 2 s.call) 2 c.inside) cover.ins to different c.inputs_are in
       record { call = s.call; symbols_are = s.symbols_are; call_is = call_as (found.AbstractStands domain texts) (AbstractStands domain texts) d nodes (past from 2 s.call) cover.hook cover.point cover.ins to c i }
 
   cover_found : CoverStands domain texts d nodes from cover to → found.CoverStands domain texts d nodes from cover to
   cover_found s =
       let c = s.call_is in
-      let i = abstract_found domain texts exactly c.entry.inputs (past (past from 2 s.call) 2 c.inside) cover.ins to different c.inputs_are in
+      let i = abstract_found domain texts exactly c.declared.inputs (past (past from 2 s.call) 2 c.inside) cover.ins to different c.inputs_are in
       record { call = s.call; symbols_are = s.symbols_are; call_is = call_as (AbstractStands domain texts) (found.AbstractStands domain texts) d nodes (past from 2 s.call) cover.hook cover.point cover.ins to c i }
 
   cover_differ : CoverStands domain texts d nodes from cover to → Different to
   cover_differ s =
       let c = s.call_is in
-      abstract_differ domain texts exactly c.entry.inputs (past (past from 2 s.call) 2 c.inside) cover.ins to different c.inputs_are
+      abstract_differ domain texts exactly c.declared.inputs (past (past from 2 s.call) 2 c.inside) cover.ins to different c.inputs_are
 
 module _ (d : Def) (nodes : List TermNode) (signs : AbsTuplesAreReadExactly sign_domain sign_texts) (intervals : AbsTuplesAreReadExactly interval_domain interval_texts) where
   lines_spelled : (from : Border) (lines : List CoverLine) (to : Border) → Different from → found.LinesStand d nodes from lines to → LinesStand d nodes from lines to

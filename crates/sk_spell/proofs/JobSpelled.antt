@@ -25,17 +25,17 @@ use Rattle.sk_spell.proofs.JobReaders.{abstract_within}
 module _ {D : Type 0} (domain : Domain D) (texts : DomainTexts D) (state : Lines) (at : ℕ) (left : List Symbol) (cover : Cover D) (to : Border)
     (call : CallStands (AbstractStands domain texts) state.def state.nodes (border state.names (at + 2) left) cover.hook cover.point cover.ins to) where
   abbrev pub first : Symbol
-  first = Named call.word
+  first = Named call.declared.name
 
   abbrev pub others : List Symbol
   others = Plain (token.Number (pos cover.point)) ∷ call.inside
 
   pub is_read : read_cover domain texts state.def state.nodes state.names (at + 2) (first ∷ others) ≡ Ok (record { cover = cover; names = to.names }, to.at)
-  is_read = ap (read_cover domain texts state.def state.nodes state.names (at + 2)) (sym call.symbols_are) ∙ cover_is domain texts state.def state.nodes state.names (at + 2) left cover.hook cover.point cover.ins to call
+  is_read = ap (read_cover domain texts state.def state.nodes state.names (at + 2)) (sym call.call.symbols_are) ∙ cover_is domain texts state.def state.nodes state.names (at + 2) left cover.hook cover.point cover.ins to call
 
   pub goes_on : (reached : Lines) → run line_rules (to.at - (at + 2 + 1)) (at + 2 + 1) at_line reached others ≡ go to.at at_line reached to.left
   goes_on reached =
-      call_past (reads_abstract domain texts) made_abstract (abstract_within domain texts false) state.def state.nodes (border state.names (at + 2) left) cover.hook cover.point cover.ins to call line_rules at_line reached first others call.symbols_are
+      call_past (reads_abstract domain texts) made_abstract (abstract_within domain texts false) state.def state.nodes (border state.names (at + 2) left) cover.hook cover.point cover.ins to call line_rules at_line reached first others call.call.symbols_are
 
 -- One line.
 
@@ -69,7 +69,7 @@ line_is state from (OfSign cover) to n s =
     let rest = others sign_domain sign_texts state from.at s.call cover to call in
     let reached = record state { names = to.names; sign = state.sign ++ cover ∷ [] } in
     ap (go from.at at_line state) s.symbols_are ∙ to_sign state from.at s.call ∙ ap (λ at. go at (at_sign ++ at_line) state s.call) (two from.at)
-    ∙ ap (go (from.at + 2) (at_sign ++ at_line) state) call.symbols_are
+    ∙ ap (go (from.at + 2) (at_sign ++ at_line) state) call.call.symbols_are
     ∙ turn_sign state (from.at + 2) one rest cover to.names to.at (is_read sign_domain sign_texts state from.at s.call cover to call)
     ∙ goes_on sign_domain sign_texts state from.at s.call cover to call reached ∙ ap (λ r. go to.at at_line r to.left) (sym (sign_added state cover to.names))
 line_is state from (OfInterval cover) to n s =
@@ -78,7 +78,7 @@ line_is state from (OfInterval cover) to n s =
     let rest = others interval_domain interval_texts state from.at s.call cover to call in
     let reached = record state { names = to.names; interval = state.interval ++ cover ∷ [] } in
     ap (go from.at at_line state) s.symbols_are ∙ to_interval state from.at s.call ∙ ap (λ at. go at (at_interval ++ at_line) state s.call) (two from.at)
-    ∙ ap (go (from.at + 2) (at_interval ++ at_line) state) call.symbols_are
+    ∙ ap (go (from.at + 2) (at_interval ++ at_line) state) call.call.symbols_are
     ∙ turn_interval state (from.at + 2) one rest cover to.names to.at (is_read interval_domain interval_texts state from.at s.call cover to call)
     ∙ goes_on interval_domain interval_texts state from.at s.call cover to call reached ∙ ap (λ r. go to.at at_line r to.left) (sym (interval_added state cover to.names))
 

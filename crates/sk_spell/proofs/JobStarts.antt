@@ -111,10 +111,10 @@ first_are state from None to lines end n s l e =
     ap (λ (b : Border). go b.at at_first state b.left) (sym s) ∙ others_first state to.at state to lines end l e ∙ ap (λ (ns : List (List ℕ)). go to.at at_line (record state { names = ns }) to.left) (sym names)
 first_are state from (Some start) to lines end n s l e =
     let call = subst (λ names. CallStands TupleStands state.def state.nodes (border names (from.at + 1) s.call) start.hook start.point start.ins to) n s.call_is in
-    let one = Named call.word in
+    let one = Named call.declared.name in
     let rest = Plain (token.Number (pos start.point)) ∷ call.inside in
     let reached = record state { names = to.names; start = Some start } in
-    let is = ap (read_call state.def state.nodes state.names (from.at + 1)) (sym call.symbols_are) ∙ start_is state.def state.nodes state.names (from.at + 1) s.call start.hook start.point start.ins to call in
-    ap (go from.at at_first state) s.symbols_are ∙ as_start state from.at s.call ∙ ap (go (from.at + 1) at_call state) call.symbols_are
+    let is = ap (read_call state.def state.nodes state.names (from.at + 1)) (sym call.call.symbols_are) ∙ start_is state.def state.nodes state.names (from.at + 1) s.call start.hook start.point start.ins to call in
+    ap (go from.at at_first state) s.symbols_are ∙ as_start state from.at s.call ∙ ap (go (from.at + 1) at_call state) call.call.symbols_are
     ∙ turn_start state (from.at + 1) one rest start to.names to.at is
-    ∙ call_past read_tuple made_tuple tuple_within state.def state.nodes (border state.names (from.at + 1) s.call) start.hook start.point start.ins to call line_rules at_line reached one rest call.symbols_are
+    ∙ call_past read_tuple made_tuple tuple_within state.def state.nodes (border state.names (from.at + 1) s.call) start.hook start.point start.ins to call line_rules at_line reached one rest call.call.symbols_are

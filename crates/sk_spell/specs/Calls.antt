@@ -7,6 +7,8 @@ use Rattle.sk_def.specs.declared.ids.SortId.{SortId}
 use Rattle.sk_def.specs.declared.def.Def.{Def}
 use Rattle.sk_def.specs.declared.def.Hook.{Hook}
 use Rattle.sk_term.specs.Program.{Program}
+use Rattle.sk_term.specs.Terms.{sort_of_node}
+use Rattle.sk_term.specs.declared.node.TermNode.{TermNode}
 
 -- this is the declaration of a hook, and none before it has its name
 pub record IsDeclared (def : Def) (hook : HookId) (declared : Hook) : Type 0 where
@@ -18,9 +20,15 @@ pub record IsPointOf (program : Program) (sort : SortId) (point : ℕ) : Type 0 
   pub below : point < length program.nodes
   pub sort_is : slice_get program.sorts point ≡ Some sort
 
--- Symbols begin with a call: the name of a hook that is declared so, and the number of a point of the hook's sort. These
--- are left after it.
-pub record CallAt (def : Def) (program : Program) (hook : HookId) (declared : Hook) (point : ℕ) (symbols left : List Symbol) : Type 0 where
+-- one of these nodes is such a point
+pub record IsNodeOf (def : Def) (nodes : List TermNode) (sort : SortId) (point : ℕ) : Type 0 where
+  pub node : TermNode
+  pub is : slice_get nodes point ≡ Some node
+  pub sort_is : sort_of_node def node ≡ Some sort
+
+-- Symbols begin with a call: the name of a hook that is declared so, and the number of a point of the hook's sort, given
+-- what the points of a sort are. These are left after it.
+pub record CallAt (def : Def) (IsPoint : SortId → ℕ → Type 0) (hook : HookId) (declared : Hook) (point : ℕ) (symbols left : List Symbol) : Type 0 where
   pub called : IsDeclared def hook declared
-  pub pointed : IsPointOf program declared.sort point
+  pub pointed : IsPoint declared.sort point
   pub symbols_are : symbols ≡ Named declared.name ∷ Plain (token.Number (pos point)) ∷ left

@@ -1,16 +1,14 @@
 -- How jobs are written: which symbols a job has, part after part.
-use Rattle.std.specs.Prelude.{◌≡◌, ◌↔◌, ℕ, ◌+◌, pos, false, List, [], ◌∷◌, length, map, codes, slice_get, Option, Some, None, Ok}
+use Rattle.std.specs.Prelude.{◌≡◌, ◌↔◌, ℕ, ◌+◌, pos, false, List, [], ◌∷◌, length, map, codes, Option, Some, None, Ok}
 use Rattle.std.specs.List.{filter_map}
 use Rattle.std.specs.Option.{option_map}
 use Rattle.sk_base.specs.declared.flow.FlowSort.{FlowSort}
 use Rattle.sk_lex.specs.Symbols.{Symbol, Named, Plain}
 use Rattle.sk_lex.specs.declared.token.TokenKind.TheVariants as token
-use Rattle.sk_def.specs.Named.{hook_named}
 use Rattle.sk_def.specs.declared.ids.HookId.{HookId}
 use Rattle.sk_def.specs.declared.def.Hook.{Hook}
 use Rattle.sk_def.specs.declared.def.Def.{Def}
 use Rattle.sk_term.specs.Spelling.{BeginWithTerm, ConstructorsAreFound}
-use Rattle.sk_term.specs.Terms.{sort_of_node}
 use Rattle.sk_term.specs.declared.node.TermNode.{TermNode}
 use Rattle.sk_value.specs.declared.flow.Flow.{Flow}
 use Rattle.sk_lattice.specs.Domain.{Domain}
@@ -25,6 +23,7 @@ use Rattle.sk_interval.specs.declared.bounds.Interval.{Interval}
 use Rattle.sk_table.specs.declared.triple.Cover.{Cover}
 use Rattle.sk_bench.specs.declared.job.Start.{Start}
 use Rattle.sk_bench.specs.Jobs.{ReadJob, padded_start, padded_cover, read_symbols}
+use Rattle.sk_spell.specs.Calls.{IsNodeOf, CallAt}
 use Rattle.sk_spell.specs.TupleSpelling.{BeginWithTuple}
 use Rattle.sk_spell.specs.AbsTupleSpelling.{BeginWithAbsTuple}
 
@@ -51,19 +50,13 @@ abbrev pub AbstractStands : {D : Type 0} → Domain D → DomainTexts D → List
 AbstractStands domain texts sorts from tuple to =
     (flows : BeginWithAbsTuple domain texts false sorts from.names from.at from.left (record { tuple = tuple; names = to.names }) to.at) × (to.left ≡ flows.left)
 
--- A call: a word that names a hook, the number of a node that has the hook's sort, and inputs of the hook's sorts.
+-- A call: the name of a hook, the number of a node that has the hook's sort, and inputs of the hook's sorts.
 pub record CallStands {X : Type 0} (inputs : List FlowSort → Border → List X → Border → Type 0) (d : Def) (nodes : List TermNode)
     (from : Border) (hook : HookId) (point : ℕ) (ins : List X) (to : Border) : Type 0 where
-  pub word : List ℕ
-  pub entry : Hook
-  pub node : TermNode
+  pub declared : Hook
   pub inside : List Symbol
-  pub symbols_are : from.left ≡ Named word ∷ Plain (token.Number (pos point)) ∷ inside
-  pub hook_is : hook_named d word ≡ Some hook
-  pub entry_is : slice_get d.hooks hook.0 ≡ Some entry
-  pub node_is : slice_get nodes point ≡ Some node
-  pub sort_is : sort_of_node d node ≡ Some entry.sort
-  pub inputs_are : inputs entry.inputs (past from 2 inside) ins to
+  pub call : CallAt d (IsNodeOf d nodes) hook declared point from.left inside
+  pub inputs_are : inputs declared.inputs (past from 2 inside) ins to
 
 -- The start line: `start` and a call.
 pub record StartLine (d : Def) (nodes : List TermNode) (from : Border) (start : Start) (to : Border) : Type 0 where

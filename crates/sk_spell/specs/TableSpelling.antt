@@ -14,7 +14,7 @@ use Rattle.sk_table.specs.declared.fault.TableError.{TableError}
 use Rattle.sk_table.specs.declared.triple.Triple.{Triple}
 use Rattle.sk_table.specs.Tuples.{read_tuple}
 use Rattle.sk_table.specs.Tables.{read_symbols, triples_read}
-use Rattle.sk_spell.specs.Calls.{CallAt}
+use Rattle.sk_spell.specs.Calls.{IsPointOf, CallAt}
 
 -- a form of tuples: which symbols begin with which tuple of some sorts, and what is left after it
 abbrev pub TupleForm : Type 0 → Type 1
@@ -31,7 +31,7 @@ pub record TripleAt {D : Type 0} (Tuple : TupleForm D) (def : Def) (program : Pr
   pub declared : Hook
   pub after_call : List Symbol
   pub after_arrow : List Symbol
-  pub call : CallAt def program triple.hook declared triple.point symbols after_call
+  pub call : CallAt def (IsPointOf program) triple.hook declared triple.point symbols after_call
   pub ins : Tuple declared.inputs triple.ins after_call (Plain token.Arrow ∷ after_arrow)
   pub outs : OutputsAt Tuple declared.outputs triple.outs after_arrow left
 
